@@ -1,0 +1,5 @@
+pub mod Types
+pub mod Terms
+pub mod Nodes
+pub mod Order
+pub mod Spelling
