@@ -1,0 +1,5 @@
+mod Lists
+mod Grown
+mod Ordered
+mod Trees
+mod Paths

@@ -1,0 +1,4 @@
+pub mod Tuples
+pub mod Plan
+pub mod Emitting
+pub mod Entries
