@@ -3,3 +3,8 @@ mod Grown
 mod Ordered
 mod Trees
 mod Paths
+mod Found
+mod Emitted
+mod Listed
+mod Planned
+mod Compiled

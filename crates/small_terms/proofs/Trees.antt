@@ -40,7 +40,7 @@ part_same ps qs v w at (code.Take i) below same = rw (same i below.0) refl
 part_same ps qs v w at (code.Drop i) below same = rw (same i below.0) refl
 part_same ps qs v w at (code.Pair i j) below same = rw (same i below.0, same j below.1.0) refl
 
-length-entry_nodes : (es : List Entry) → length (entry_nodes es) ≡ length es
+pub length-entry_nodes : (es : List Entry) → length (entry_nodes es) ≡ length es
 length-entry_nodes [] = refl
 length-entry_nodes (e ∷ es) = ap suc (length-entry_nodes es)
 
