@@ -1,17 +1,17 @@
 -- What is written as a small source is read.
-use Rattle.std.proofs.Common.{◌≡◌, ℕ, subst, zero, suc, ◌+◌, ◌≤◌, max, Bool, true, false, cond, not, ◌&&◌, List, [], ◌∷◌, ◌++◌, length, refl, sym, ap, ◌∙◌, ◌⊎◌, inl, inr, arith, add-zero, append_assoc, Option, Some, None, IsTrue, IsFalse, codes, bytes_eq}
+use Rattle.std.proofs.Common.{◌≡◌, ℕ, subst, zero, suc, ◌≤◌, Bool, true, false, not, List, [], ◌∷◌, ◌++◌, length, refl, sym, ap, ◌∙◌, arith, append_assoc, Some, None, codes, bytes_eq}
 use Rattle.std.specs.List.{list_all, list_any}
-use Rattle.std.proofs.lemmas.Bool.{cases_Bool, cond-true, cond-false, and_parts, not-true}
+use Rattle.std.proofs.lemmas.Bool.{cond-true, cond-false, and_parts, not-true}
 use Rattle.std.proofs.lemmas.Slice.Eq.{bytes_eq-Decides}
-use Rattle.small_source.specs.Names.{names_variable, names_function}
-use Rattle.small_source.specs.Small.{Small, SmallBody, Named, Paired, Token, Text, TextAt, token_bytes, StandsAt, type_tokens, body_tokens, parameter_tokens, more_parameter_tokens, parameters_tokens, function_tokens, nesting, body_names_fit, all_differ, IsSmall, IsOneFunction}
+use Rattle.small_source.specs.Names.{names_variable}
+use Rattle.small_source.specs.Small.{Small, SmallBody, Named, Paired, Token, Text, TextAt, token_bytes, StandsAt, body_tokens, parameter_tokens, parameters_tokens, function_tokens, nesting, body_names_fit, all_differ, IsSmall, IsOneFunction}
 use Rattle.small_source.specs.Tokens.{Placed, tokens_from}
-use Rattle.small_source.specs.Read.{Reading, ◌>>=◌, or_else, Shape, Byte, Both, symbol_read, name_read, pair_read, byte_read, type_read, body_read, parameter_read, goes_on_read, parameters_read, signature_read, end_read, function_read}
+use Rattle.small_source.specs.Read.{Reading, Shape, Byte, Both, symbol_read, name_read, pair_read, byte_read, type_read, body_read, parameter_read, goes_on_read, parameters_read, signature_read, function_read}
 use Rattle.small_source.proofs.Fits.{Fits, none, one, Fits-split}
 use Rattle.small_source.proofs.Fresh.{all_fresh, all_fresh-none}
-use Rattle.small_source.proofs.Written.{IsCut, AllCut, Fits-from_Separated}
+use Rattle.small_source.proofs.Written.{Fits-from_Separated}
 use Rattle.small_source.proofs.Cut.{function_cut}
-use Rattle.small_source.proofs.Sound.{pair_tokens, shape_tokens, shape_nesting, shape, shape_tokens-shape, shape_nesting-shape, follower}
+use Rattle.small_source.proofs.Sound.{pair_tokens, shape_tokens, shape_nesting, shape, shape_tokens-shape, shape_nesting-shape}
 
 none_left : {ps rest : List Placed} → Fits ps [] rest → ps ≡ rest
 none_left none = refl

@@ -1,11 +1,11 @@
 -- Each token of a small source is cut off as one token.
-use Rattle.std.proofs.Common.{◌≡◌, ◌==◌, ℕ, subst, suc, ◌+◌, Bool, true, false, cond, not, ◌&&◌, ◌||◌, List, [], ◌∷◌, ◌++◌, length, refl, sym, ap, ◌∙◌, ◌⊎◌, inl, inr, codes, bytes_eq}
+use Rattle.std.proofs.Common.{◌≡◌, ◌==◌, ℕ, suc, ◌+◌, true, false, cond, not, ◌&&◌, ◌||◌, List, [], ◌∷◌, ◌++◌, length, refl, ap, ◌∙◌, inl, inr, codes, bytes_eq}
 use Rattle.std.proofs.Math.Numerals.{one-add}
 use Rattle.std.specs.List.{list_all, prefix_len}
 use Rattle.std.proofs.lemmas.Bool.{cond-true, and_parts, and_from, or_cases, or_left, eqb-true, false_from_ne_true}
 use Rattle.small_source.specs.Names.{is_blank, is_word_byte, is_name_start, is_name, keywords, is_among, names_variable, reserved_for_variables, names_function, reserved_for_functions}
-use Rattle.small_source.specs.Small.{Small, SmallBody, Named, Paired, Token, Text, TextAt, token_bytes, EndsBefore, type_tokens, body_tokens, parameter_tokens, more_parameter_tokens, parameters_tokens, function_tokens, body_names_fit}
-use Rattle.small_source.specs.Tokens.{further_bytes, begins_with}
+use Rattle.small_source.specs.Small.{Small, SmallBody, Named, Paired, Token, Text, EndsBefore, type_tokens, body_tokens, more_parameter_tokens, parameters_tokens, function_tokens, body_names_fit}
+use Rattle.small_source.specs.Tokens.{begins_with}
 use Rattle.small_source.proofs.Written.{IsCut, AllCut, Stops}
 
 AllCut-append : (ts us : List Token) → AllCut ts → AllCut us → AllCut (ts ++ us)
@@ -15,14 +15,14 @@ AllCut-append (t ∷ ts) us a b = (a.0, AllCut-append ts us a.1 b)
 blank_no_word : (c : ℕ) → is_blank c ≡ true → is_word_byte c ≡ false
 blank_no_word c h =
     elim (or_cases (c == 32) (c == 9 || (c == 13 || c == 10)) h) [
-      inl e ↦ rw (eqb-true c 32 e) refl
+      | inl e ↦ rw (eqb-true c 32 e) refl
       | inr g ↦ elim (or_cases (c == 9) (c == 13 || c == 10) g) [
-          inl e ↦ rw (eqb-true c 9 e) refl
-          | inr f ↦ elim (or_cases (c == 13) (c == 10) f) [
-              inl e ↦ rw (eqb-true c 13 e) refl
-              | inr e ↦ rw (eqb-true c 10 e) refl
-            ]
+        | inl e ↦ rw (eqb-true c 9 e) refl
+        | inr f ↦ elim (or_cases (c == 13) (c == 10) f) [
+          | inl e ↦ rw (eqb-true c 13 e) refl
+          | inr e ↦ rw (eqb-true c 10 e) refl
         ]
+      ]
     ]
 
 word_no_blank : (c : ℕ) → is_word_byte c ≡ true → is_blank c ≡ false

@@ -1,5 +1,5 @@
 -- Tokens of a text against the tokens that are written.
-use Rattle.std.proofs.Common.{◌≡◌, ℕ, List, [], ◌∷◌, ◌++◌, refl}
+use Rattle.std.proofs.Common.{◌≡◌, List, [], ◌∷◌, ◌++◌}
 use Rattle.small_source.specs.Small.{Token, token_bytes, StandsAt}
 use Rattle.small_source.specs.Tokens.{Placed}
 

@@ -1,7 +1,7 @@
 -- The tokens of a text, one step at a time.
 use Rattle.std.proofs.Math.Numerals.{one-add}
-use Rattle.std.proofs.Common.{◌≡◌, ℕ, ◌-◌, ◌≤◌, ◌&&◌, ◌||◌, not, map, bytes_eq, length-drop, Bor, subst, zero, suc, ◌+◌, Bool, true, false, cond, List, [], ◌∷◌, ◌++◌, length, take, drop, refl, sym, ap, ◌∙◌, ◌⊎◌, inl, inr, arith, add-zero, zero-add, add-suc}
-use Rattle.std.specs.List.{prefix_len, list_any, list_all}
+use Rattle.std.proofs.Common.{◌≡◌, ℕ, ◌-◌, ◌≤◌, ◌&&◌, not, length-drop, subst, zero, suc, ◌+◌, true, false, List, [], ◌∷◌, length, take, drop, refl, sym, ap, ◌∙◌, inl, inr, arith, add-zero}
+use Rattle.std.specs.List.{prefix_len, list_all}
 use Rattle.std.proofs.lemmas.List.Sums.{prefix_len-le-length}
 use Rattle.std.proofs.lemmas.Bool.{cases_Bool, cond-true, cond-false}
 use Rattle.small_source.specs.Names.{is_blank, is_word_byte, is_name, is_name_start, is_among, keywords}
@@ -32,7 +32,7 @@ tokens_from-blanks at [] = rw add-zero refl
 tokens_from-blanks at (c ∷ z) =
     let P : ℕ → Type 0 = λ n. tokens_from 0 at (c ∷ z) ≡ tokens_from 0 (at + n) (drop n (c ∷ z)) in
     elim (cases_Bool (is_blank c)) [
-      inl h ↦ subst P (sym (cond-true (is_blank c) _ 0 h)) (let n = prefix_len is_blank z in let e : suc at + n ≡ at + (1 + n) = omega arith in tokens_from-blank at c z h ∙ rw (← e, one-add) (tokens_from-blanks (suc at) z))
+      | inl h ↦ subst P (sym (cond-true (is_blank c) _ 0 h)) (let n = prefix_len is_blank z in let e : suc at + n ≡ at + (1 + n) = omega arith in tokens_from-blank at c z h ∙ rw (← e, one-add) (tokens_from-blanks (suc at) z))
       | inr h ↦ subst P (sym (cond-false (is_blank c) (1 + prefix_len is_blank z) 0 h)) (rw add-zero refl)
     ]
 
@@ -52,10 +52,10 @@ not_blank : (z more : List ℕ) (c : ℕ) → drop (prefix_len is_blank z) z ≡
 not_blank [] more c e = absurd (let no : ⊥ = cc in no)
 not_blank (d ∷ z) more c e =
     elim (cases_Bool (is_blank d)) [
-      inl h ↦ (let n : prefix_len is_blank (d ∷ z) ≡ suc (prefix_len is_blank z) = cond-true (is_blank d) (1 + prefix_len is_blank z) 0 h ∙ one-add (prefix_len is_blank z) in
-        not_blank z more c (rw n at e))
+      | inl h ↦ (let n : prefix_len is_blank (d ∷ z) ≡ suc (prefix_len is_blank z) = cond-true (is_blank d) (1 + prefix_len is_blank z) 0 h ∙ one-add (prefix_len is_blank z) in
+          not_blank z more c (rw n at e))
       | inr h ↦ (let n : prefix_len is_blank (d ∷ z) ≡ 0 = cond-false (is_blank d) (1 + prefix_len is_blank z) 0 h in
-        let f : d ∷ z ≡ c ∷ more = rw n at e in let same : d ≡ c = cc in rw (← same) h)
+          let f : d ∷ z ≡ c ∷ more = rw n at e in let same : d ≡ c = cc in rw (← same) h)
     ]
 
 -- the first token, after blanks

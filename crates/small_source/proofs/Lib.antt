@@ -6,3 +6,4 @@ pub mod Sound
 pub mod Turns
 pub mod Cut
 pub mod Complete
+pub mod Stands

@@ -1,10 +1,10 @@
 -- What is read is written so.
-use Rattle.std.proofs.Common.{◌≡◌, ℕ, subst, zero, suc, ◌+◌, ◌≤◌, max, Bool, true, false, cond, not, ◌&&◌, List, [], ◌∷◌, ◌++◌, length, refl, sym, ap, ◌∙◌, ◌⊎◌, inl, inr, arith, add-zero, append_assoc, Option, Some, None, IsTrue, IsFalse, codes, bytes_eq}
+use Rattle.std.proofs.Common.{◌≡◌, ℕ, subst, zero, suc, ◌≤◌, max, Bool, true, false, cond, not, List, [], ◌∷◌, ◌++◌, length, refl, sym, ap, ◌∙◌, ◌⊎◌, inl, inr, arith, append_assoc, Option, Some, None, codes, bytes_eq}
 use Rattle.std.specs.List.{list_all, list_any}
-use Rattle.std.proofs.lemmas.Bool.{cases_Bool, cond-true, cond-false, and_parts, and_from, true≢false, not-true, not-false, not_from_false}
+use Rattle.std.proofs.lemmas.Bool.{and_from, not-true, not_from_false}
 use Rattle.std.proofs.lemmas.Slice.Eq.{bytes_eq-Decides}
 use Rattle.small_source.specs.Names.{names_variable, names_function}
-use Rattle.small_source.specs.Small.{Small, SmallBody, Named, Paired, Token, Text, TextAt, token_bytes, StandsAt, type_tokens, body_tokens, parameter_tokens, more_parameter_tokens, parameters_tokens, function_tokens, nesting, body_names_fit, all_differ, IsSmall}
+use Rattle.small_source.specs.Small.{Small, SmallBody, Named, Paired, Token, Text, TextAt, type_tokens, body_tokens, parameter_tokens, parameters_tokens, function_tokens, nesting, body_names_fit, all_differ, IsSmall}
 use Rattle.small_source.specs.Tokens.{Placed, tokens_from}
 use Rattle.small_source.specs.Read.{Reading, ◌>>=◌, or_else, Shape, Byte, Both, symbol_read, name_read, pair_read, byte_read, type_read, body_read, parameter_read, goes_on_read, parameters_read, signature_read, end_read, function_read}
 use Rattle.small_source.proofs.Fits.{Fits, none, one, Fits-append}
@@ -133,12 +133,12 @@ unfolding type_read
 type_read-is zero ps x e = byte_read-is zero ps x e
 type_read-is (suc depth) ps x e =
     elim (or_else-cases (byte_read ps) (pair_read Both (type_read depth) (type_read depth) ps) x e) [
-      inl byte ↦ byte_read-is (suc depth) ps x byte
+      | inl byte ↦ byte_read-is (suc depth) ps x byte
       | inr both ↦ (let p = pair_read-is Both (type_read depth) (type_read depth) ps x both in
-        let a = type_read-is depth p.opened p.first p.first_read in
-        let b = type_read-is depth p.parted p.second p.second_read in
-        let deep : suc (max (shape_nesting p.first.0) (shape_nesting p.second.0)) ≤ suc depth = omega (arith, a.shallow, b.shallow) in
-        record { fits = rw p.is (pair_read-fits p (shape_tokens p.first.0) (shape_tokens p.second.0) a.fits b.fits); shallow = rw p.is deep })
+          let a = type_read-is depth p.opened p.first p.first_read in
+          let b = type_read-is depth p.parted p.second p.second_read in
+          let deep : suc (max (shape_nesting p.first.0) (shape_nesting p.second.0)) ≤ suc depth = omega (arith, a.shallow, b.shallow) in
+          record { fits = rw p.is (pair_read-fits p (shape_tokens p.first.0) (shape_tokens p.second.0) a.fits b.fits); shallow = rw p.is deep })
     ]
 
 -- a body that was read
@@ -198,7 +198,7 @@ unfolding goes_on_read
 goes_on_read-is ps x e =
     let P : Bool × List Placed → Type 0 = λ y. Fits ps (Text (follower y.0) ∷ []) y.1 in
     elim (or_else-cases (symbol_read (codes ")") ps >>= (λ rest. Some (false, rest))) (symbol_read (codes ",") ps >>= (λ rest. Some (true, rest))) x e) [
-      inl last ↦ (let a = steps _ _ _ last in let same : (false, a.middle) ≡ x = cc a.gives in subst P same (symbol_read-fits _ _ _ a.was))
+      | inl last ↦ (let a = steps _ _ _ last in let same : (false, a.middle) ≡ x = cc a.gives in subst P same (symbol_read-fits _ _ _ a.was))
       | inr more ↦ (let a = steps _ _ _ more in let same : (true, a.middle) ≡ x = cc a.gives in subst P same (symbol_read-fits _ _ _ a.was))
     ]
 
@@ -298,7 +298,7 @@ signature_read-is asked ps x s =
       few = subst (λ names. length names ≤ 8) new p.few;
       differ = sym (all_fresh-none s.parameters.0) ∙ subst (λ names. all_fresh [] names ≡ true) new p.fresh;
       variables = subst (λ names. list_all names_variable names ≡ true) new p.variables;
-      shallow = t.shallow
+      shallow = t.shallow;
     })
 
 -- the steps of reading a function
@@ -346,5 +346,5 @@ small_from_read text asked f named e =
       parameters_differ = g.differ;
       parameter_names = g.variables;
       body_names = q.variables;
-      nested = subst (λ n. n ≤ 8) deep g.shallow
+      nested = subst (λ n. n ≤ 8) deep g.shallow;
     })

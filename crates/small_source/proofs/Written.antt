@@ -1,11 +1,11 @@
 -- A text is separated into tokens exactly where these are the tokens of the text.
-use Rattle.std.proofs.Common.{◌≡◌, ◌==◌, ℕ, subst, zero, suc, ◌+◌, ◌≤◌, Bool, true, false, cond, not, ◌&&◌, List, [], ◌∷◌, ◌++◌, length, take, drop, refl, sym, ap, ◌∙◌, ◌⊎◌, inl, inr, arith, add-zero, zero-add, add-suc, length-take, length-append, IsTrue, IsFalse}
+use Rattle.std.proofs.Common.{◌≡◌, ◌==◌, ℕ, subst, zero, suc, ◌+◌, ◌≤◌, Bool, false, cond, ◌&&◌, List, [], ◌∷◌, ◌++◌, length, take, drop, refl, sym, ap, ◌∙◌, inl, inr, arith, add-zero, length-take}
 use Rattle.std.proofs.Math.Numerals.{one-add}
 use Rattle.std.specs.List.{prefix_len, list_all}
 use Rattle.std.proofs.lemmas.Bool.{cases_Bool, cond-true, cond-false, cond_both, and_parts, true≢false}
 use Rattle.std.proofs.lemmas.List.Sums.{prefix_len-le-length}
 use Rattle.small_source.specs.Names.{is_blank, is_word_byte}
-use Rattle.small_source.specs.Small.{Token, token_bytes, StandsAt, EndsBefore, Separated, nothing, blank, token}
+use Rattle.small_source.specs.Small.{Token, token_bytes, EndsBefore, Separated, nothing, blank, token}
 use Rattle.small_source.specs.Tokens.{Placed, tokens_from, further_bytes, begins_with}
 use Rattle.small_source.proofs.Lexing.{tokens_from-blank, tokens_from-token}
 use Rattle.small_source.proofs.Fits.{Fits, none, one}
@@ -19,12 +19,12 @@ abbrev pub AllCut : List Token → Type 0
 AllCut [] = Unit {0}
 AllCut (t ∷ ts) = IsCut (token_bytes t) × AllCut ts
 
--- past a token
-take_front : (w rest : List ℕ) → take (length w) (w ++ rest) ≡ w
+-- what stands before and after a front
+pub take_front : (w rest : List ℕ) → take (length w) (w ++ rest) ≡ w
 take_front [] rest = refl
 take_front (c ∷ w) rest = ap (λ v. c ∷ v) (take_front w rest)
 
-drop_front : (w rest : List ℕ) → drop (length w) (w ++ rest) ≡ rest
+pub drop_front : (w rest : List ℕ) → drop (length w) (w ++ rest) ≡ rest
 drop_front [] rest = refl
 drop_front (c ∷ w) rest = drop_front w rest
 
@@ -58,7 +58,7 @@ prefix_len-stops p [] = tt
 prefix_len-stops p (c ∷ z) =
     let P : ℕ → Type 0 = λ n. Stops p (drop n (c ∷ z)) in
     elim (cases_Bool (p c)) [
-      inl h ↦ subst P (sym (cond-true (p c) (1 + prefix_len p z) 0 h)) (rw one-add (prefix_len-stops p z))
+      | inl h ↦ subst P (sym (cond-true (p c) (1 + prefix_len p z) 0 h)) (rw one-add (prefix_len-stops p z))
       | inr h ↦ subst P (sym (cond-false (p c) (1 + prefix_len p z) 0 h)) h
     ]
 
@@ -100,6 +100,6 @@ Separated-from_Fits (suc k) at (c ∷ z) ts f =
     let e : suc at + k ≡ at + suc k = omega arith in rw (← e) (Separated-from_Fits k (suc at) z ts f)
 Separated-from_Fits zero at (c ∷ z) ts f =
     elim (cases_Bool (is_blank c)) [
-      inl h ↦ rw add-zero (blank h (rw add-zero at (Separated-from_Fits zero (suc at) z ts (subst (λ ps. Fits ps ts []) (cond-true (is_blank c) _ _ h) f))))
+      | inl h ↦ rw add-zero (blank h (rw add-zero at (Separated-from_Fits zero (suc at) z ts (subst (λ ps. Fits ps ts []) (cond-true (is_blank c) _ _ h) f))))
       | inr h ↦ rw add-zero (token_first at c (further_bytes c z) z (further_bytes-le c z) (further_bytes-ends c z) (Separated-from_Fits (further_bytes c z) (suc at) z) (subst (λ ps. Fits ps ts []) (cond-false (is_blank c) _ _ h) f))
     ]

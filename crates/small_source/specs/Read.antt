@@ -1,5 +1,5 @@
 -- Reading a small source from its tokens: what was read and the tokens after it, or none where the tokens are no small source.
-use Rattle.std.specs.Prelude.{ℕ, zero, suc, Bool, true, false, cond, not, ◌&&◌, List, [], ◌∷◌, ◌++◌, Option, Some, None, codes, bytes_eq}
+use Rattle.std.specs.Prelude.{ℕ, zero, suc, Bool, true, false, cond, List, [], ◌∷◌, ◌++◌, Option, Some, None, codes, bytes_eq}
 use Rattle.std.specs.List.{list_any}
 use Rattle.small_source.specs.Names.{names_variable}
 use Rattle.small_source.specs.Small.{Small, SmallBody, Named, Paired}

@@ -1,7 +1,6 @@
 -- A small source: one function over bytes whose result is made of its parameters.
-use Rattle.std.specs.Prelude.{◌≡◌, ℕ, suc, ◌+◌, ◌≤◌, max, Bool, true, not, ◌&&◌, List, [], ◌∷◌, ◌++◌, length, IsTrue, IsFalse, codes, bytes_eq, ⊤}
-use Rattle.std.specs.List.{list_all, list_any, slice_get}
-use Rattle.std.specs.Option.{IfSome}
+use Rattle.std.specs.Prelude.{◌≡◌, ℕ, suc, ◌+◌, ◌≤◌, max, Bool, true, not, ◌&&◌, List, [], ◌∷◌, ◌++◌, length, take, drop, IsTrue, IsFalse, codes, bytes_eq, ⊤}
+use Rattle.std.specs.List.{list_all, list_any}
 use Rattle.small_source.specs.Names.{is_blank, is_word_byte, names_variable, names_function}
 
 -- what a function gives: one name, with the offset of its first byte in the text, or a pair
@@ -95,6 +94,12 @@ pub record IsSmall (text asked : List ℕ) (f : Small) : Type 0 where
   pub parameter_names : IsTrue (list_all names_variable f.parameters)
   pub body_names : IsTrue (body_names_fit f.body)
   pub nested : nesting f.body ≤ 8
+
+-- each name of a body stands in a text at its place
+abbrev pub NamesStandIn : List ℕ → SmallBody → Type 0
+NamesStandIn text (Named name place) =
+    (place + length name ≤ length text) × (take (length name) (drop place text) ≡ name)
+NamesStandIn text (Paired first second) = NamesStandIn text first × NamesStandIn text second
 
 -- the law that a text is a small source of one function at most
 abbrev pub IsOneFunction : Type 0

@@ -1,5 +1,5 @@
 -- The tokens of a text, each with the offset of its first byte. A byte that begins no token of the language counts as one, which no reader takes.
-use Rattle.std.specs.Prelude.{ℕ, zero, suc, ◌+◌, ◌-◌, Bool, false, cond, ◌&&◌, ◌==◌, List, [], ◌∷◌, take}
+use Rattle.std.specs.Prelude.{ℕ, zero, suc, Bool, false, cond, ◌&&◌, ◌==◌, List, [], ◌∷◌, take}
 use Rattle.std.specs.List.{prefix_len}
 use Rattle.small_source.specs.Names.{is_blank, is_word_byte}
 

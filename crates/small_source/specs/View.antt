@@ -1,5 +1,5 @@
 -- What the code's values stand for, and what a function that reads returns.
-use Rattle.std.specs.Prelude.{◌≡◌, ℕ, Bool, true, false, List, [], ◌∷◌, Option, Some, None, Result, Ok, Err, ⊤}
+use Rattle.std.specs.Prelude.{◌≡◌, Bool, true, false, List, Option, Some, None, Result, Ok, Err, ⊤}
 use Rattle.small_source.specs.declared.small.Body as code_body
 use Rattle.small_source.specs.declared.small.Body.TheVariants as body
 use Rattle.small_source.specs.declared.small.Shape as code_shape

@@ -10,7 +10,7 @@ use crate::small::SmallRefusal;
 use std::marker::Model;
 
 /// A token, and the offset of its first byte in the text.
-#[derive(Clone, Copy, Debug)]
+#[derive(Clone, Copy)]
 pub(crate) struct Token<'a> {
     pub(crate) bytes: &'a [u8],
     pub(crate) place: usize,
@@ -39,9 +39,7 @@ fn word_bytes(text: &[u8]) -> usize
     ensures value { result ≡ prefix_len is_word_byte text.now }
     ensures bound { result ≤ length text.now }
 {
-    text.iter()
-        .take_while(|byte| is_word_byte(**byte))
-        .count()
+    text.iter().take_while(|byte| is_word_byte(**byte)).count()
 }
 
 // How many blanks the text begins with.

@@ -13,6 +13,9 @@ mod cursor;
 mod names;
 mod read;
 mod small;
+#[cfg(test)]
+mod tests;
 
+pub use names::is_name;
 pub use read::{one_function, read_small};
 pub use small::{Body, Name, SmallFunction, SmallRefusal};

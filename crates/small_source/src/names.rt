@@ -5,25 +5,24 @@ ghost use Rattle.small_source.specs.Names.{is_blank, is_name_start, is_word_byte
 pub(crate) fn is_blank(byte: u8) -> bool
     ensures { result ≡ is_blank byte }
 {
-    byte == b' ' || byte == b'\t' || byte == b'\r' || byte == b'\n'
+    matches!(byte, b' ' | b'\t' | b'\r' | b'\n')
 }
 
 fn is_name_start(byte: u8) -> bool
     ensures { result ≡ is_name_start byte }
 {
-    b'A' <= byte && byte <= b'Z' || b'a' <= byte && byte <= b'z' || byte == b'_'
+    matches!(byte, b'A'..=b'Z' | b'a'..=b'z' | b'_')
 }
 
 pub(crate) fn is_word_byte(byte: u8) -> bool
     ensures { result ≡ is_word_byte byte }
 {
-    is_name_start(byte) || b'0' <= byte && byte <= b'9'
+    is_name_start(byte) || matches!(byte, b'0'..=b'9')
 }
 
 const KEYWORDS: [&[u8]; 5] = [b"_", b"fn", b"type", b"let", b"match"];
 
-const RESERVED_FOR_VARIABLES: [&[u8]; 6] =
-    [b"true", b"false", b"None", b"Left", b"Right", b"Some"];
+const RESERVED_FOR_VARIABLES: [&[u8]; 6] = [b"true", b"false", b"None", b"Left", b"Right", b"Some"];
 
 const RESERVED_FOR_FUNCTIONS: [&[u8]; 10] = [
     b"Left",
@@ -69,8 +68,10 @@ fn are_word_bytes(bytes: &[u8]) -> bool
     bytes.iter().all(|byte| is_word_byte(*byte))
 }
 
+/// Whether a word may name something: it begins with a letter or `_`, goes on with letters, digits
+/// and `_`, and is no keyword.
 #[tactic(auto, using(crate::proofs::Lexing::is_name_of))]
-fn is_name(word: &[u8]) -> bool
+pub fn is_name(word: &[u8]) -> bool
     ensures { result ≡ is_name word.now }
 {
     let Some((first, more)) = word.split_first() else {

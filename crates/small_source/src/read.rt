@@ -1,6 +1,6 @@
 ghost use Rattle.std.specs.Prelude.{◌≡◌, ◌+◌, ◌<◌, ◌≤◌, [], ◌∷◌, bytes_eq, IfOk, IsErrOf};
 ghost use Rattle.std.specs.List.{list_any};
-ghost use Rattle.small_source.specs.Small.{Small, IsSmall, IsOneFunction};
+ghost use Rattle.small_source.specs.Small.{Small, IsSmall, IsOneFunction, NamesStandIn};
 ghost use Rattle.small_source.specs.Tokens.{tokens_from};
 ghost use Rattle.small_source.specs.Read.{name_read, type_read, body_read, parameter_read, parameters_read, goes_on_read, signature_read, function_read};
 ghost use Rattle.small_source.specs.View.{body_of, shape_of, small_of, Gives, GivesRest, Reads};
@@ -12,6 +12,7 @@ use std::alloc::Global;
 
 // The most parameters that a function has, and the deepest nesting of its result type.
 const MOST_PARAMETERS: u8 = 8;
+
 const DEEPEST: u8 = 8;
 
 // A name of a variable.
@@ -41,10 +42,7 @@ fn result_type(alloc: Global, cursor: &mut Cursor<'_>, depth: u8) -> Result<Shap
     cursor.expect(b",")?;
     let second = result_type(alloc, cursor, depth - 1)?;
     cursor.expect(b")")?;
-    Ok(Shape::Both(
-        Box::new(alloc, first)?,
-        Box::new(alloc, second)?,
-    ))
+    Ok(Shape::Both(Box::new(alloc, first)?, Box::new(alloc, second)?))
 }
 
 // A body that is nested as a type is.
@@ -55,10 +53,7 @@ fn body(alloc: Global, cursor: &mut Cursor<'_>, shape: &Shape) -> Result<Body, S
     match shape {
         Shape::Byte => {
             let token = name(cursor)?;
-            Ok(Body::Named(
-                Name::copy_of(alloc, token.bytes)?,
-                token.place,
-            ))
+            Ok(Body::Named(Name::copy_of(alloc, token.bytes)?, token.place))
         }
         Shape::Both(first, second) => {
             cursor.expect(b"(")?;
@@ -66,10 +61,7 @@ fn body(alloc: Global, cursor: &mut Cursor<'_>, shape: &Shape) -> Result<Body, S
             cursor.expect(b",")?;
             let second = body(alloc, cursor, second)?;
             cursor.expect(b")")?;
-            Ok(Body::Paired(
-                Box::new(alloc, first)?,
-                Box::new(alloc, second)?,
-            ))
+            Ok(Body::Paired(Box::new(alloc, first)?, Box::new(alloc, second)?))
         }
     }
 }
@@ -83,11 +75,7 @@ fn has_name(names: &[Name], bytes: &[u8]) -> bool
 
 // A parameter whose name is none of those before.
 #[tactic(auto, unfolding(crate::specs::Read::parameter_read))]
-fn parameter(
-    alloc: Global,
-    cursor: &mut Cursor<'_>,
-    before: &[Name],
-) -> Result<Name, SmallRefusal>
+fn parameter(alloc: Global, cursor: &mut Cursor<'_>, before: &[Name]) -> Result<Name, SmallRefusal>
     ensures { Gives (λ name. name) (parameter_read before.now cursor.old) result cursor.new }
 {
     let token = name(cursor)?;
@@ -173,6 +161,7 @@ fn function(
 #[tactic(auto, using(crate::proofs::Complete::read_from_small))]
 pub fn read_small(alloc: Global, text: &[u8], asked: &[u8]) -> Result<SmallFunction, SmallRefusal>
     ensures small { IfOk result (λ f. IsSmall text.now asked.now (small_of f)) }
+    ensures places { IfOk result (λ f. NamesStandIn text.now (body_of f.body)) }
     ensures not_small { IsErrOf result SmallRefusal.NotSmall → (f : Small) → ¬ IsSmall text.now asked.now f }
 {
     if !names_function(asked) {
@@ -184,5 +173,4 @@ pub fn read_small(alloc: Global, text: &[u8], asked: &[u8]) -> Result<SmallFunct
 /// The law that a text is a small source of one function at most.
 pub fn one_function()
     ensures { IsOneFunction }
-{
-}
+{}

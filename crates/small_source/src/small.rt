@@ -74,7 +74,7 @@ impl<T: Drop> From<AllocFailed<T>> for SmallRefusal {
 }
 
 /// How a result type is nested.
-#[derive(Debug, Drop)]
+#[derive(Drop)]
 pub(crate) enum Shape {
     Byte,
     Both(Box<Shape>, Box<Shape>),

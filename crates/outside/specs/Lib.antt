@@ -1,0 +1,8 @@
+pub mod Counts
+pub mod Files
+pub mod MemoryFiles
+pub mod MemorySink
+pub mod Plans
+pub mod Sink
+pub mod StdSink
+pub mod Streams

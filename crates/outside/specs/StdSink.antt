@@ -1,0 +1,11 @@
+-- The stream and the count of a sink over a stream.
+use Rattle.std.specs.Prelude.{ℕ}
+use Rattle.outside.specs.declared.std_sink.StdSink.{StdSink}
+
+-- the stream that the sink writes to
+abbrev pub stream_of : {W : Type 0} → StdSink W → W
+stream_of sink = sink.stream
+
+-- how many calls of `put` failed
+abbrev pub fault_count : {W : Type 0} → StdSink W → ℕ
+fault_count sink = sink.faults

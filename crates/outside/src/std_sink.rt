@@ -1,0 +1,113 @@
+// The streams of the system. Nothing is told of what they took.
+ghost use Rattle.std.specs.Prelude.{◌≡◌, ◌≤◌, [], None, IsOk, OnOk, OnErr};
+ghost use Rattle.std.specs.Io.KnownBytes.{Appends};
+ghost use Rattle.outside.specs.Counts.{HasRisen};
+
+use crate::{Sink, SinkFailed};
+use std::io::Write;
+use std::rt::{HostRuntime, Stderr, Stdout};
+
+/// A stream as a sink. No byte waits in a buffer of the sink's own.
+#[derive(Drop)]
+pub struct StdSink<W> {
+    stream: W,
+    faults: u64,
+}
+
+impl StdSink<Stdout> {
+    /// Standard output.
+    pub fn output(runtime: &HostRuntime) -> Self
+        ensures { ⟦<StdSink<Stdout> as Sink>⟧.faults result ≡ 0 }
+    {
+        StdSink::new(runtime.stdout())
+    }
+}
+
+impl StdSink<Stderr> {
+    /// Standard error.
+    pub fn errors(runtime: &HostRuntime) -> Self
+        ensures { ⟦<StdSink<Stderr> as Sink>⟧.faults result ≡ 0 }
+    {
+        StdSink::new(runtime.stderr())
+    }
+}
+
+impl<W: Write> StdSink<W> {
+    pub fn new(stream: W) -> Self
+        ensures { ⟦<StdSink<W> as Sink>⟧.faults result ≡ 0 }
+    {
+        StdSink { stream, faults: 0 }
+    }
+}
+
+// Writes the whole piece, in as many parts as the stream takes it. A part of no bytes is a failure.
+fn write_whole<W: Write>(stream: &mut W, piece: &[u8]) -> Result<(), SinkFailed>
+    ensures { OnOk result (Appends (W.contents stream.old) (W.contents stream.new) piece.now) }
+{
+    let mut rest = piece;
+    'parts: while !rest.is_empty() {
+        match stream.write(rest) {
+            Ok(0) | Err(_) => return Err(SinkFailed),
+            Ok(count) => rest = &rest[count..],
+        }
+    }
+    match stream.flush() {
+        Ok(()) => Ok(()),
+        Err(_) => Err(SinkFailed),
+    }
+}
+
+impl<W: Write> Sink for StdSink<W> {
+    ghost use Rattle.outside.specs.StdSink.{stream_of, fault_count};
+
+    ghost contents = { λ _. None };
+
+    ghost faults = { fault_count };
+
+    /// A piece that is taken is written whole to the stream.
+    fn put(&mut self, piece: &[u8]) -> Result<(), SinkFailed>
+        ensures written { OnOk result (Appends (W.contents (stream_of self.old)) (W.contents (stream_of self.new)) piece.now) }
+        ensures failed { OnErr result (HasRisen (fault_count self.old) (fault_count self.new)) }
+        ensures no_fault { OnOk result (fault_count self.new ≡ fault_count self.old) }
+        ensures never_fall { fault_count self.old ≤ fault_count self.new }
+        ensures empty { piece.now ≡ [] → IsOk result }
+    {
+        if piece.is_empty() {
+            return Ok(());
+        }
+        let answer = write_whole(&mut self.stream, piece);
+        if answer.is_err() {
+            self.faults = self.faults.saturating_add(1);
+        }
+        answer
+    }
+}
+
+#[cfg(test)]
+mod tests {
+    use super::*;
+    use std::fs;
+    use std::fs::File;
+    use std::test::Fail;
+
+    const PATH: &str = "outside-std-sink-test";
+
+    #[test]
+    fn writes_to_a_stream(rt: HostRuntime) -> Result<(), Fail> {
+        let mut sink = StdSink::new(File::create(&rt, PATH)?);
+        for piece in [b"one ".as_slice(), b"", b"two"] {
+            assert_eq!(rt; sink.put(piece), Ok(()));
+        }
+        assert_eq!(rt; fs::read(&rt, PATH)?.as_slice(), b"one two".as_slice());
+
+        let mut closed = StdSink::new(File::open(&rt, PATH)?);
+        assert_eq!(rt; closed.put(b"three"), Err(SinkFailed));
+        assert_eq!(rt; closed.put(b""), Ok(()));
+        assert_eq!(rt; (sink.faults, closed.faults), (0, 1));
+        fs::remove_file(&rt, PATH)?;
+
+        assert_eq!(rt; StdSink::output(&rt).put(b"out\n"), Ok(()));
+        assert_eq!(rt; StdSink::errors(&rt).put(b"err\n"), Ok(()));
+        Ok(())
+    }
+}

@@ -1,0 +1,53 @@
+//! The line of a small source.
+
+ghost use Rattle.std.specs.Prelude.{◌≡◌, IfOk};
+ghost use Rattle.simphl.specs.Built.{IsBuilt, IsBuiltOf};
+ghost use Rattle.small_source.specs.View.{small_of};
+ghost use Rattle.small_terms.specs.Compiled.{IsModest};
+
+use base64::engine::general_purpose::STANDARD;
+use bit_codec::write_program;
+use small_source::{SmallFunction, SmallRefusal, read_small};
+use small_terms::{BuildRefusal, build_small};
+use std::alloc::{AllocError, Global};
+
+/// What building gives.
+#[derive(Drop)]
+pub enum Built {
+    /// The program in base64, and a line feed.
+    Line(String),
+    /// A name of the body is no parameter: the place of its first byte in the text, and how many bytes it has.
+    UnknownName { start: usize, length: usize },
+    /// The text is no small source for the asked name.
+    NotSmall,
+}
+
+/// Builds a text for an asked name.
+pub fn build(alloc: Global, text: &[u8], asked: &[u8]) -> Result<Built, AllocError>
+    ensures { IfOk result (IsBuilt text.now asked.now) }
+{
+    match read_small(alloc, text, asked) {
+        Ok(function) => build_function(alloc, &function),
+        Err(SmallRefusal::NotSmall) => Ok(Built::NotSmall),
+        Err(SmallRefusal::OutOfMemory) => Err(AllocError),
+    }
+}
+
+/// The line of a function.
+fn build_function(alloc: Global, function: &SmallFunction) -> Result<Built, AllocError>
+    requires { IsModest (small_of function.now) }
+    ensures { IfOk result (IsBuiltOf (small_of function.now)) }
+{
+    match build_small(alloc, function) {
+        Ok(nodes) => {
+            let program = write_program(alloc, &nodes)?;
+            let mut line = STANDARD.encode(alloc, program.as_slice())?;
+            line.push('\n')?;
+            Ok(Built::Line(line))
+        }
+        Err(BuildRefusal::UnknownName { start, length }) => {
+            Ok(Built::UnknownName { start, length })
+        }
+        Err(BuildRefusal::OutOfMemory) => Err(AllocError),
+    }
+}

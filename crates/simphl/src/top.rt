@@ -1,0 +1,56 @@
+//! The top call.
+
+ghost use Rattle.std.specs.Prelude.{◌≡◌, ◌≤◌};
+ghost use Rattle.simphl.specs.Answer.{IsAllowed, IsAnswer, HasRead};
+ghost use Rattle.simphl.specs.Answered.{IsPut, IsDelivered};
+ghost use Rattle.simphl.specs.Words.{reading, texts};
+
+use crate::outcome::{Outcome, compose};
+use crate::status::Status;
+use outside::{Files, Sink, SinkFailed};
+use std::alloc::Global;
+
+/// Runs a command: reads the files that its words name, composes its text, and writes it to `out`, or why not to `err`.
+///
+/// The clause `answer` says what each answer means and what caused it.
+pub fn simphl<F: Files, O: Sink, E: Sink>(
+    alloc: Global,
+    words: &[String],
+    files: &mut F,
+    out: &mut O,
+    err: &mut E,
+) -> Status
+    ensures held { F.held files.new ≡ F.held files.old }
+    ensures reads { HasRead (reading (texts words.now)) (F.reads files.old) (F.reads files.new) }
+    ensures never_fall { F.faults files.old ≤ F.faults files.new }
+    ensures answer { IsAnswer (IsAllowed (reading (texts words.now)) (F.held files.old) (F.faults files.old) (F.faults files.new)) result (record { contents = O.contents out.old; faults = O.faults out.old }) (record { contents = O.contents out.new; faults = O.faults out.new }) (record { contents = E.contents err.old; faults = E.faults err.old }) (record { contents = E.contents err.new; faults = E.faults err.new }) }
+{
+    match compose(alloc, words, files) {
+        Ok(Outcome::Done(text)) => deliver(out, err, text.as_bytes()),
+        Ok(Outcome::Refused(status, text)) => refuse(err, status, text.as_bytes()),
+        Err(_) => refuse(err, Status::NoMemory, b"no memory\n"),
+    }
+}
+
+/// Puts a text on `out`.
+fn deliver<O: Sink, E: Sink>(out: &mut O, err: &mut E, text: &[u8]) -> Status
+    ensures { IsDelivered (record { contents = O.contents out.old; faults = O.faults out.old }) (record { contents = O.contents out.new; faults = O.faults out.new }) (record { contents = E.contents err.old; faults = E.faults err.old }) (record { contents = E.contents err.new; faults = E.faults err.new }) text.now result }
+{
+    match out.put(text) {
+        Ok(()) => Status::Done,
+        Err(SinkFailed) => {
+            let _ = err.put(b"write\n");
+            Status::WriteFault
+        }
+    }
+}
+
+/// Puts why there is no text on `err`.
+fn refuse<E: Sink>(err: &mut E, status: Status, text: &[u8]) -> Status
+    ensures { IsPut status (record { contents = E.contents err.old; faults = E.faults err.old }) (record { contents = E.contents err.new; faults = E.faults err.new }) text.now result }
+{
+    match err.put(text) {
+        Ok(()) => status,
+        Err(SinkFailed) => Status::WriteFault,
+    }
+}
