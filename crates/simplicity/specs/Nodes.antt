@@ -1,6 +1,6 @@
 -- Node lists: nodes that name their children by index, and the tree that a list unfolds to
 -- (after the Simplicity Technical Report, "Serialization"; that witness nodes are numbered in list order is this project's own).
-use Rattle.std.specs.Prelude.{ℕ, ◌+◌, ◌-◌, ◌<◌, List, [], ◌∷◌, ◌++◌, length, Option, Some, None, slice_get, unwrap_or}
+use Rattle.std.specs.Prelude.{ℕ, suc, ◌+◌, ◌-◌, ◌<◌, List, [], ◌∷◌, ◌++◌, length, Option, Some, None, slice_get, unwrap_or}
 use Rattle.simplicity.specs.Terms as term
 use Rattle.simplicity.specs.Terms.{Term}
 
@@ -132,3 +132,8 @@ tree_of_node ns i = tree_at (parts ns) i
 
 abbrev pub tree_of : List Node → Term
 tree_of ns = tree_of_node ns (length ns - 1)
+
+-- the number of witness nodes among the first nodes of a list, so the number of the one that stands there
+abbrev pub witness_number : List Node → ℕ → ℕ
+witness_number (n ∷ ns) (suc i) = count_after n (witness_number ns i)
+witness_number _ _ = 0
