@@ -1,2 +1,10 @@
 pub mod Naturals
 mod Examples
+mod Rows
+mod RowBits
+mod RowRuns
+mod RowRoots
+pub mod Inversion
+pub mod Typings
+pub mod Below
+mod RowTypings

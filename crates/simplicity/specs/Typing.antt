@@ -82,10 +82,17 @@ pub record IsLeast (ns : List Node) (root : Arrow) (ts : Typing) : Type 0 where
 abbrev pub HasNoTyping : List Node → Arrow → Type 0
 HasNoTyping ns root = (ts : Typing) → IsTypingAt ns root ts → ⊥
 
--- the target of the node at an index; the unit type where it has no arrow
+-- the source and the target of the node at an index; the unit type where it has no arrow
+abbrev pub source_of : Option (Option Arrow) → Kind
+source_of (Some (Some a)) = a.source
+source_of _ = One
+
 abbrev pub target_of : Option (Option Arrow) → Kind
 target_of (Some (Some a)) = a.target
 target_of _ = One
+
+abbrev pub source_at : Typing → ℕ → Kind
+source_at ts i = source_of (slice_get ts i)
 
 abbrev pub target_at : Typing → ℕ → Kind
 target_at ts i = target_of (slice_get ts i)
