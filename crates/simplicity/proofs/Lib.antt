@@ -8,3 +8,5 @@ pub mod Inversion
 pub mod Typings
 pub mod Below
 mod RowTypings
+mod Sharing
+mod RowAccepted

@@ -17,19 +17,19 @@ below_same ns ts us root h count entries =
     let same : us ≡ ts = same_list us ts (typing_length us ns us h.typed ∙ count) entries in
     subst (IsTypingBelow ts) (sym same) (typing_below_self ts)
 
-empty_least : IsLeast empty_nodes (arrow One One) empty_typing
+pub empty_least : IsLeast empty_nodes (arrow One One) empty_typing
 empty_least = record {
   typing = record { typed = (row.UnitNode One, tt); rooted = refl };
   least = λ us h. below_same empty_nodes empty_typing us (arrow One One) h refl (h.rooted, tt);
 }
 
-same_least : IsLeast same_nodes (arrow byte byte) same_typing
+pub same_least : IsLeast same_nodes (arrow byte byte) same_typing
 same_least = record {
   typing = record { typed = (row.Iden byte, tt); rooted = refl };
   least = λ us h. below_same same_nodes same_typing us (arrow byte byte) h refl (h.rooted, tt);
 }
 
-second_least : IsLeast second_nodes (arrow two_bytes byte) second_typing
+pub second_least : IsLeast second_nodes (arrow two_bytes byte) second_typing
 second_least = record {
   typing = record { typed = (row.Iden byte, (row.Drop 0 byte byte byte refl, tt)); rooted = refl };
   least = λ us h.
@@ -37,7 +37,7 @@ second_least = record {
     below_same second_nodes second_typing us (arrow two_bytes byte) h refl (child, (h.rooted, tt));
 }
 
-swap_least : IsLeast swap_nodes (arrow two_bytes two_bytes) swap_typing
+pub swap_least : IsLeast swap_nodes (arrow two_bytes two_bytes) swap_typing
 swap_least = record {
   typing = record {
     typed =
@@ -50,7 +50,7 @@ swap_least = record {
     below_same swap_nodes swap_typing us (arrow two_bytes two_bytes) h refl (child, (parts.0, (parts.1, (h.rooted, tt))));
 }
 
-five_least : IsLeast five_nodes (arrow One byte) five_typing
+pub five_least : IsLeast five_nodes (arrow One byte) five_typing
 five_least = record {
   typing = record { typed = (row.UnitNode One, (row.Word 3 5, (row.Comp 0 1 One One byte refl refl, tt))); rooted = refl };
   least = λ us h.
@@ -98,7 +98,7 @@ assert_below us h m k p q a b c m_is p_is q_is k_is b_is c_is h9 h8 h7 h6 h5 h4 
       ((tt, tt), ((tt, (tt, tt)), ((tt, ((tt, tt), tt)), (tt, (((tt, tt), tt), ((((tt, tt), tt), tt), ((tt, tt), ((tt, (tt, tt)), ((tt, tt),
         (((tt, tt), tt), ((tt, tt), tt)))))))))))
 
-assert_least : IsLeast assert_nodes (arrow One One) assert_typing
+pub assert_least : IsLeast assert_nodes (arrow One One) assert_typing
 assert_least = record {
   typing = assert_typed;
   least = λ us h.
@@ -121,7 +121,7 @@ assert_least = record {
 }
 
 -- no type holds itself as a part
-endless : (root : Arrow) → HasNoTyping endless_nodes root
+pub endless : (root : Arrow) → HasNoTyping endless_nodes root
 endless root us h =
     let parts = pair_meets us 0 1 root.source root.target (meets_at us endless_nodes 2 (node.Pair 0 1) root.source root.target h.typed refl h.rooted) in
     let left = take_meets us 0 root.source parts.1 (meets_at us endless_nodes 1 (node.Take 0) root.source parts.1 h.typed refl parts.4) in

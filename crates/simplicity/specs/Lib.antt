@@ -2,6 +2,7 @@ pub mod Types
 pub mod Cells
 pub mod Terms
 pub mod Nodes
+pub mod Carried
 pub mod Order
 pub mod Typing
 pub mod Shared
