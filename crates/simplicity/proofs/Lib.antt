@@ -10,3 +10,5 @@ pub mod Below
 mod RowTypings
 mod Sharing
 mod RowAccepted
+pub mod Values
+pub mod Meaning

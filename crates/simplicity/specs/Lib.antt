@@ -13,3 +13,4 @@ pub mod Machine
 pub mod Visits
 pub mod Pruning
 pub mod Bounds
+pub mod Laws
