@@ -12,3 +12,5 @@ mod Sharing
 mod RowAccepted
 pub mod Values
 pub mod Meaning
+pub mod Unfold
+pub mod Trees

@@ -67,3 +67,11 @@ hidden_at ts ns i h typed is =
     let entry = some_entry ts ns ts i (node.Hidden h) typed is in
     let none : entry.0 ≡ None = hidden_meets ts h entry.0 (entry_at ts ns ts i (node.Hidden h) entry.0 typed is entry.1) in
     entry.1 ∙ ap Some none
+
+-- there is a node at each entry
+pub some_node : (ts : Typing) (ns : List Node) (es : Typing) (i : ℕ) (e : Option Arrow) → EntriesMeet ts ns es → slice_get es i ≡ Some e →
+    (n : Node) × (slice_get ns i ≡ Some n)
+some_node ts ns [] i e h is = absurd (cc)
+some_node ts [] (f ∷ es) i e h is = elim h [ ]
+some_node ts (n ∷ ns) (f ∷ es) zero e h is = (n, refl)
+some_node ts (n ∷ ns) (f ∷ es) (suc i) e h is = some_node ts ns es i e h.1 is

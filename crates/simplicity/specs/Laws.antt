@@ -4,7 +4,7 @@ use Rattle.simplicity.specs.Types.{Kind, Value, IsOf, AreOf, IsBelow, size, code
 use Rattle.simplicity.specs.Cells.{cells}
 use Rattle.simplicity.specs.Terms.{Term, Answer, meaning}
 use Rattle.simplicity.specs.Typing.{Typing, HasArrow, IsTyping, IsTyped, witness_targets}
-use Rattle.simplicity.specs.Nodes.{Node, Part, Tree, HiddenSide, IsPlaced, IsShown, IsHidden, parts, tree_of_node}
+use Rattle.simplicity.specs.Nodes.{Node, IsPlaced, IsShown, Unfolds, tree_of_node}
 use Rattle.simplicity.specs.Carried.{AreCarried, AreBelow256}
 use Rattle.simplicity.specs.Spelling.{Spelled, IsNatural, IsStream, natural}
 
@@ -35,14 +35,9 @@ IsAnswerOf (Some v) k = IsOf v k
 abbrev pub MeaningKeeps : Type 0
 MeaningKeeps = (ks : List Kind) (w : List Value) (t : Term) (a b : Kind) (v : Value) → AreOf w ks → IsTyped ks t a b → IsOf v a → IsAnswerOf (meaning t w v) b
 
--- a node of a placed list has a part: a tree, but the bytes of a hidden node
-abbrev pub IsPartOf : Node → Option Part → Type 0
-IsPartOf n None = ⊥
-IsPartOf n (Some (Tree t)) = IsShown (Some n)
-IsPartOf n (Some (HiddenSide h)) = IsHidden (Some n)
-
+-- each shown node of a placed list unfolds to its tree
 abbrev pub NodesUnfold : Type 0
-NodesUnfold = (ns : List Node) (i : ℕ) (n : Node) → IsPlaced ns → slice_get ns i ≡ Some n → IsPartOf n (slice_get (parts ns) i)
+NodesUnfold = (ns : List Node) (i : ℕ) → IsPlaced ns → IsShown (slice_get ns i) → Unfolds ns i (tree_of_node ns i)
 
 -- the tree of a node of a placed and typed list has the node's arrow, where the witnesses have the targets of their nodes
 abbrev pub TreesAreTyped : Type 0
