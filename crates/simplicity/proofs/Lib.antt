@@ -14,3 +14,5 @@ pub mod Values
 pub mod Meaning
 pub mod Unfold
 pub mod Trees
+pub mod Bits
+pub mod Spell
