@@ -1,12 +1,12 @@
 -- Fixed-width numbers, bytes and naturals are read off the bits in one way.
-use Rattle.std.proofs.Common.{◌≡◌, refl, ap, sym, subst, ◌∙◌, ℕ, zero, suc, ◌+◌, ◌-◌, ◌*◌, ◌/◌, ◌%◌, ◌^◌, ◌<◌, ◌≤◌, Bool, true, false, List, [], ◌∷◌, ◌++◌, length, replicate, arith, append_assoc, length-append}
-use Rattle.std.proofs.Math.Nat.{pow-succ', mod-one, mod-eq_of_lt, mod-lt}
+use Rattle.std.proofs.Common.{◌≡◌, refl, ap, sym, subst, ◌∙◌, ℕ, zero, suc, ◌+◌, ◌*◌, ◌/◌, ◌%◌, ◌^◌, ◌<◌, Bool, true, false, List, [], ◌∷◌, ◌++◌, length, arith, append_assoc, length-append}
+use Rattle.std.proofs.Math.Nat.{pow-succ', mod-one, mod-eq_of_lt}
 use Rattle.std.proofs.Math.Arith.{mod-mul}
 use Rattle.std.proofs.lemmas.Nat.{pow_pos}
 use Rattle.std.specs.Prelude.{nat_eq}
 use Rattle.simplicity.specs.Types.{is_odd}
 use Rattle.simplicity.specs.Spelling.{number_bits, byte_bits, natural, IsNatural, NaturalOne, NaturalPower}
-use Rattle.simplicity.specs.Carried.{AreBelow256, AreBytes}
+use Rattle.simplicity.specs.Carried.{AreBelow256}
 use Rattle.simplicity.proofs.Naturals.{natural_holds}
 
 -- the parity is read off
@@ -53,10 +53,10 @@ natural_apart_of _ _ _ _ us vs (NaturalPower x n m code xs h below is rest made)
     absurd (cc)
 natural_apart_of _ _ _ _ us vs (NaturalPower x n m code xs h below is rest made) (NaturalPower y k l code' ys h' below' is' rest' made') e =
     let whole : true ∷ ((code ++ number_bits n m) ++ us) ≡ true ∷ ((code' ++ number_bits k l) ++ vs) =
-      sym (ap (λ (l : List Bool). l ++ us) made) ∙ e ∙ ap (λ (l : List Bool). l ++ vs) made' in
+    sym (ap (λ (l : List Bool). l ++ us) made) ∙ e ∙ ap (λ (l : List Bool). l ++ vs) made' in
     let peeled : (code ++ number_bits n m) ++ us ≡ (code' ++ number_bits k l) ++ vs = cc in
     let grouped : code ++ (number_bits n m ++ us) ≡ code' ++ (number_bits k l ++ vs) =
-      sym (append_assoc code (number_bits n m) us) ∙ peeled ∙ append_assoc code' (number_bits k l) vs in
+    sym (append_assoc code (number_bits n m) us) ∙ peeled ∙ append_assoc code' (number_bits k l) vs in
     let first = natural_apart_of n k code code' (number_bits n m ++ us) (number_bits k l ++ vs) rest rest' grouped in
     let width : n ≡ k = first.0 in
     let same_width : number_bits n m ++ us ≡ number_bits n l ++ vs = first.1 ∙ ap (λ (w : ℕ). number_bits w l ++ vs) (sym width) in
@@ -75,7 +75,7 @@ bytes_apart [] (y ∷ ys) us vs count h g e = absurd (omega arith)
 bytes_apart (x ∷ xs) [] us vs count h g e = absurd (omega arith)
 bytes_apart (x ∷ xs) (y ∷ ys) us vs count h g e =
     let grouped : number_bits 8 x ++ (byte_bits xs ++ us) ≡ number_bits 8 y ++ (byte_bits ys ++ vs) =
-      sym (append_assoc (number_bits 8 x) (byte_bits xs) us) ∙ e ∙ append_assoc (number_bits 8 y) (byte_bits ys) vs in
+    sym (append_assoc (number_bits 8 x) (byte_bits xs) us) ∙ e ∙ append_assoc (number_bits 8 y) (byte_bits ys) vs in
     let first = number_apart 8 x y (byte_bits xs ++ us) (byte_bits ys ++ vs) h.0 g.0 grouped in
     let rest = bytes_apart xs ys us vs (omega arith) h.1 g.1 first.1 in
     let front : x ≡ y = first.0 in

@@ -1,5 +1,5 @@
 -- What a node's arrow says of its children's, read off the typing table.
-use Rattle.std.proofs.Common.{◌≡◌, refl, subst, ℕ, List}
+use Rattle.std.proofs.Common.{◌≡◌, refl, subst, ℕ}
 use Rattle.simplicity.specs.Types.{Kind, One, Sum, Product, word_kind}
 use Rattle.simplicity.specs.Nodes as node
 use Rattle.simplicity.specs.Typing.{Typing, HasArrow, HasNoArrow, Meets}

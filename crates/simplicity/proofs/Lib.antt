@@ -16,3 +16,4 @@ pub mod Unfold
 pub mod Trees
 pub mod Bits
 pub mod Spell
+mod More

@@ -1,13 +1,12 @@
 -- The meaning of a typed term on a value of its source is failure or a value of its target.
-use Rattle.std.proofs.Common.{◌≡◌, refl, subst, ℕ, zero, suc, List, [], ◌∷◌, Option, Some, None}
+use Rattle.std.proofs.Common.{◌≡◌, subst, ℕ, zero, suc, List, [], ◌∷◌, Some, None}
 use Rattle.std.specs.Prelude.{slice_get}
-use Rattle.simplicity.specs.Types.{Kind, One, Sum, Product, Value, UnitValue, Inl, Inr, Pair, IsOf, AreOf}
-use Rattle.simplicity.specs.Terms as term
+use Rattle.simplicity.specs.Types.{Kind, Sum, Product, Value, Inl, Inr, Pair, IsOf, AreOf}
 use Rattle.simplicity.specs.Terms.{Term, Answer, meaning, and_then, paired, on_tag, on_first, on_second}
 use Rattle.simplicity.specs.Typing.{IsTyped}
 use Rattle.simplicity.specs.Typing as row
 use Rattle.simplicity.specs.Laws.{IsAnswerOf}
-use Rattle.simplicity.proofs.Values.{Of, OfOne, OfLeft, OfRight, OfPair, of_kind, is_of, word_of}
+use Rattle.simplicity.proofs.Values.{Of, OfLeft, OfRight, OfPair, of_kind, is_of, word_of}
 
 -- what goes on with a value of the one type to an answer of the other keeps it
 after : (x : Answer) (f : Value → Answer) (a b : Kind) → IsAnswerOf x a → ((v : Value) → IsOf v a → IsAnswerOf (f v) b) → IsAnswerOf (and_then x f) b
@@ -52,7 +51,7 @@ meaning_keeps ks w _ _ _ v h (row.TypedComp s t a b c m n) is =
     after (meaning s w v) (meaning t w) b c (meaning_keeps ks w s a b v h m is) (λ u k. meaning_keeps ks w t b c u h n k)
 meaning_keeps ks w _ _ _ v h (row.TypedCase s t a b c d m n) is =
     tag_of (meaning s w) (meaning t w) a b c d v (of_kind (Product (Sum a b) c) v is)
-        (λ u k. meaning_keeps ks w s (Product a c) d u h m k) (λ u k. meaning_keeps ks w t (Product b c) d u h n k)
+    (λ u k. meaning_keeps ks w s (Product a c) d u h m k) (λ u k. meaning_keeps ks w t (Product b c) d u h n k)
 meaning_keeps ks w _ _ _ v h (row.TypedAssertL s e a b c d m) is =
     tag_of (meaning s w) (λ _. None) a b c d v (of_kind (Product (Sum a b) c) v is) (λ u k. meaning_keeps ks w s (Product a c) d u h m k) (λ u k. tt)
 meaning_keeps ks w _ _ _ v h (row.TypedAssertR e t a b c d n) is =

@@ -1,10 +1,10 @@
 -- The worked programs spelled, ordered and unfolded, checked by computing.
 use Rattle.std.proofs.Common.{◌≡◌, refl, ℕ, ◌<◌, List, [], ◌∷◌, ◌++◌, replicate, false, arith}
-use Rattle.simplicity.specs.Types.{Value, UnitValue, Inl, Inr, Pair, One, Sum, Product, word_kind, word_value, shrink}
+use Rattle.simplicity.specs.Types.{UnitValue, Inl, Inr, Pair, One, Sum, Product, word_kind, word_value, shrink}
 use Rattle.simplicity.specs.Nodes.{Node, tree_of, IsPlaced, HasRoot}
 use Rattle.simplicity.specs.Terms as term
 use Rattle.simplicity.specs.Order.{IsOrdered, IsInPlace}
-use Rattle.simplicity.specs.Spelling.{Spelled, IsStream, IsPadded, byte_bits, codes_of, program_bits}
+use Rattle.simplicity.specs.Spelling.{Spelled, IsStream, byte_bits, program_bits}
 use Rattle.simplicity.proofs.Rows.{empty_nodes, empty_bytes, same_nodes, same_bytes, second_nodes, second_bytes, swap_nodes, swap_bytes, five_nodes, five_bytes, assert_nodes, assert_bytes, endless_nodes, endless_bytes, loose_nodes, loose_bytes, fail_root, byte}
 
 -- bytes that hold a list's bits and so many zeros spell it
@@ -30,8 +30,8 @@ five_spelled = spells five_bytes five_nodes 7 (tt, (tt, ((tt, tt), tt))) (tt, om
 pub assert_spelled : Spelled assert_bytes assert_nodes
 assert_spelled =
     spells assert_bytes assert_nodes 7
-        (tt, (tt, ((tt, tt), (tt, (tt, (tt, ((tt, tt), ((tt, tt), (tt, (tt, ((tt, tt), tt)))))))))))
-        (tt, omega arith) (omega arith) refl
+    (tt, (tt, ((tt, tt), (tt, (tt, (tt, ((tt, tt), ((tt, tt), (tt, (tt, ((tt, tt), tt)))))))))))
+    (tt, omega arith) (omega arith) refl
 
 pub endless_spelled : Spelled endless_bytes endless_nodes
 endless_spelled = spells endless_bytes endless_nodes 1 (tt, (tt, ((tt, tt), tt))) (tt, omega arith) (omega arith) refl
@@ -70,10 +70,10 @@ swap_tree = refl
 
 assert_tree : tree_of assert_nodes ≡
     term.Comp
-        (term.PairTerm
-            (term.Comp (term.PairTerm (term.Injr term.UnitTerm) term.UnitTerm) (term.AssertR fail_root term.UnitTerm))
-            term.UnitTerm)
-        (term.Drop term.Iden)
+    (term.PairTerm
+    (term.Comp (term.PairTerm (term.Injr term.UnitTerm) term.UnitTerm) (term.AssertR fail_root term.UnitTerm))
+    term.UnitTerm)
+    (term.Drop term.Iden)
 assert_tree = refl
 
 -- the stream of a witness that is a pair of bytes, of which the second isn't used
@@ -90,6 +90,6 @@ stream_of_left = record { typed = ((((tt, tt), (tt, tt)), ((tt, tt), (tt, tt))),
 pub stream_of_right : IsStream (0x80 ∷ 0 ∷ 0 ∷ []) (Sum byte (word_kind 4) ∷ []) (Inr (word_value 4 0) ∷ [])
 stream_of_right = record {
   typed =
-    (((((tt, tt), (tt, tt)), ((tt, tt), (tt, tt))), (((tt, tt), (tt, tt)), ((tt, tt), (tt, tt)))), tt);
+      (((((tt, tt), (tt, tt)), ((tt, tt), (tt, tt))), (((tt, tt), (tt, tt)), ((tt, tt), (tt, tt)))), tt);
   padded = record { zeros = 7; few = omega arith; same = refl };
 }

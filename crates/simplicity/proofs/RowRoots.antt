@@ -1,5 +1,5 @@
 -- Roots checked by computing SHA-256 itself; the digests were found with Python's hashlib.
-use Rattle.std.proofs.Common.{◌≡◌, refl, List, ℕ, [], ◌∷◌, replicate}
+use Rattle.std.proofs.Common.{◌≡◌, refl, [], ◌∷◌, replicate}
 use Rattle.sha2.specs.Sha256.{sha256, digest_bytes, hash_after, compress, rounds, schedule, first_words}
 use Rattle.simplicity.specs.Terms as term
 use Rattle.simplicity.specs.Nodes.{tree_of}

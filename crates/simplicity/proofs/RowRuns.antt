@@ -1,8 +1,8 @@
 -- The worked programs run on the Bit Machine: their values, instructions, cells and frames, and the bounds that the lists give.
-use Rattle.std.proofs.Common.{◌≡◌, refl, sym, ℕ, zero, suc, List, [], ◌∷◌}
-use Rattle.simplicity.specs.Types.{Kind, One, Sum, Product, Value, UnitValue, Pair, word_value}
+use Rattle.std.proofs.Common.{◌≡◌, refl, ℕ, zero, suc}
+use Rattle.simplicity.specs.Types.{Kind, One, Value, UnitValue, Pair, word_value}
 use Rattle.simplicity.specs.Machine.{Program, State, Totals, Turn, Next, Ends, Fails, Stuck, Reaches, Here, Onward, RunEnds, HoldsResult, turn, start}
-use Rattle.simplicity.specs.Bounds.{Bounds, bounds}
+use Rattle.simplicity.specs.Bounds.{bounds}
 use Rattle.simplicity.proofs.Rows.{program, empty_nodes, empty_typing, same_nodes, same_typing, swap_nodes, swap_typing, five_nodes, five_typing, assert_nodes, assert_typing, byte, two_bytes}
 
 -- the state after at most so many turns
@@ -54,7 +54,7 @@ same_run = runs 3 (program same_nodes same_typing) (word_value 3 7) byte (word_v
 swap_run : Runs (program swap_nodes swap_typing) (Pair (word_value 3 1) (word_value 3 2)) two_bytes (Pair (word_value 3 2) (word_value 3 1)) (totals 4 20 32 2)
 swap_run =
     runs 12 (program swap_nodes swap_typing) (Pair (word_value 3 1) (word_value 3 2)) two_bytes (Pair (word_value 3 2) (word_value 3 1))
-        (totals 4 20 32 2) refl refl refl
+    (totals 4 20 32 2) refl refl refl
 
 five_run : Runs (program five_nodes five_typing) UnitValue byte (word_value 3 5) (totals 20 20 8 3)
 five_run = runs 30 (program five_nodes five_typing) UnitValue byte (word_value 3 5) (totals 20 20 8 3) refl refl refl

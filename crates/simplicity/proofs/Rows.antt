@@ -1,6 +1,6 @@
 -- The worked programs: their lists, their least typings, and the bytes that spell them.
-use Rattle.std.proofs.Common.{ℕ, Option, Some, None, List, [], ◌∷◌, replicate}
-use Rattle.simplicity.specs.Types.{Kind, One, Sum, Product, Value, UnitValue, Pair, word_kind, word_value}
+use Rattle.std.proofs.Common.{ℕ, Option, Some, None, List, [], ◌∷◌}
+use Rattle.simplicity.specs.Types.{Kind, One, Sum, Product, word_kind}
 use Rattle.simplicity.specs.Nodes as node
 use Rattle.simplicity.specs.Nodes.{Node}
 use Rattle.simplicity.specs.Typing.{Typing, Arrow, arrow}

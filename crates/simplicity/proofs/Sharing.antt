@@ -6,7 +6,7 @@ use Rattle.simplicity.specs.Nodes.{Node}
 use Rattle.simplicity.specs.Nodes as node
 use Rattle.simplicity.specs.Order.{has}
 use Rattle.simplicity.specs.Typing.{Typing, Arrow}
-use Rattle.simplicity.specs.Shared.{IsShared, AreSame}
+use Rattle.simplicity.specs.Shared.{IsShared}
 
 -- the numbers of the nodes with their entries
 abbrev pub numbers_of : (Node → Option (Option Arrow) → ℕ) → List Node → Typing → List ℕ

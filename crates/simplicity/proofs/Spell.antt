@@ -1,8 +1,7 @@
 -- A list and the bytes that spell it determine each other.
-use Rattle.std.proofs.Common.{◌≡◌, refl, ap, sym, subst, ◌∙◌, ℕ, zero, suc, ◌+◌, ◌-◌, ◌*◌, ◌^◌, ◌<◌, ◌≤◌, Bool, true, false, List, [], ◌∷◌, ◌++◌, length, take, replicate, Option, Some, None, arith, append_assoc, length-append}
-use Rattle.std.proofs.lemmas.List.{append-nil, length-replicate}
+use Rattle.std.proofs.Common.{◌≡◌, refl, ap, sym, subst, ◌∙◌, ℕ, ◌+◌, ◌-◌, ◌*◌, ◌^◌, ◌<◌, Bool, true, false, List, [], ◌∷◌, ◌++◌, length, take, replicate, arith, append_assoc, length-append}
+use Rattle.std.proofs.lemmas.List.{length-replicate}
 use Rattle.std.proofs.Math.Seq.{take-length}
-use Rattle.std.specs.Prelude.{slice_get}
 use Rattle.simplicity.specs.Types.{Kind, Value, AreOf, code, word_count}
 use Rattle.simplicity.specs.Nodes as node
 use Rattle.simplicity.specs.Nodes.{Node, children, IsPlaced, PlacedAfter, CanFollow, HasRoot}
@@ -23,7 +22,7 @@ two_apart : (i l r j k : ℕ) (us vs : List Bool) → l < i → r < i → j < i 
     (natural (i - l) ++ natural (i - r)) ++ us ≡ (natural (i - j) ++ natural (i - k)) ++ vs → (l ≡ j) × (r ≡ k) × (us ≡ vs)
 two_apart i l r j k us vs h g h' g' e =
     let grouped : natural (i - l) ++ (natural (i - r) ++ us) ≡ natural (i - j) ++ (natural (i - k) ++ vs) =
-      sym (append_assoc (natural (i - l)) (natural (i - r)) us) ∙ e ∙ append_assoc (natural (i - j)) (natural (i - k)) vs in
+    sym (append_assoc (natural (i - l)) (natural (i - r)) us) ∙ e ∙ append_assoc (natural (i - j)) (natural (i - k)) vs in
     let first = one_apart i l j (natural (i - r) ++ us) (natural (i - k) ++ vs) h h' grouped in
     let second = one_apart i r k us vs g g' first.1 in
     (first.0, second.0, second.1)
@@ -35,7 +34,7 @@ word_apart : (k n l m : ℕ) (us vs : List Bool) → n < word_count k → m < wo
     (natural (k + 1) ++ number_bits (2 ^ k) n) ++ us ≡ (natural (l + 1) ++ number_bits (2 ^ l) m) ++ vs → (k ≡ l) × (n ≡ m) × (us ≡ vs)
 word_apart k n l m us vs h g e =
     let grouped : natural (k + 1) ++ (number_bits (2 ^ k) n ++ us) ≡ natural (l + 1) ++ (number_bits (2 ^ l) m ++ vs) =
-      sym (append_assoc (natural (k + 1)) (number_bits (2 ^ k) n) us) ∙ e ∙ append_assoc (natural (l + 1)) (number_bits (2 ^ l) m) vs in
+    sym (append_assoc (natural (k + 1)) (number_bits (2 ^ k) n) us) ∙ e ∙ append_assoc (natural (l + 1)) (number_bits (2 ^ l) m) vs in
     let first = natural_apart (k + 1) (l + 1) (number_bits (2 ^ k) n ++ us) (number_bits (2 ^ l) m ++ vs) (omega arith) (omega arith) grouped in
     let same : k ≡ l = omega (arith, first.0) in
     let bits : number_bits (2 ^ k) n ++ us ≡ number_bits (2 ^ k) m ++ vs = first.1 ∙ ap (λ (w : ℕ). number_bits (2 ^ w) m ++ vs) (sym same) in
@@ -181,7 +180,7 @@ nodes_apart before i [] (m ∷ ms) us vs at count h g c d e = absurd (omega arit
 nodes_apart before i (n ∷ ns) [] us vs at count h g c d e = absurd (omega arith)
 nodes_apart before i (n ∷ ns) (m ∷ ms) us vs at count h g c d e =
     let grouped : node_bits i n ++ (nodes_bits (i + 1) ns ++ us) ≡ node_bits i m ++ (nodes_bits (i + 1) ms ++ vs) =
-      sym (append_assoc (node_bits i n) (nodes_bits (i + 1) ns) us) ∙ e ∙ append_assoc (node_bits i m) (nodes_bits (i + 1) ms) vs in
+    sym (append_assoc (node_bits i n) (nodes_bits (i + 1) ns) us) ∙ e ∙ append_assoc (node_bits i m) (nodes_bits (i + 1) ms) vs in
     let under : AreUnder i (children n) = subst (λ (k : ℕ). AreUnder k (children n)) (sym at) (follow_under before n h.0) in
     let under' : AreUnder i (children m) = subst (λ (k : ℕ). AreUnder k (children m)) (sym at) (follow_under before m g.0) in
     let first = node_apart i n m (nodes_bits (i + 1) ns ++ us) (nodes_bits (i + 1) ms ++ vs) under under' c.0 d.0 grouped in
@@ -196,22 +195,22 @@ program_apart : (ns ms : List Node) (us vs : List Bool) → IsPlaced ns → IsPl
     program_bits ns ++ us ≡ program_bits ms ++ vs → ns ≡ ms
 program_apart ns ms us vs h g some some' c d e =
     let grouped : natural (length ns) ++ (nodes_bits 0 ns ++ us) ≡ natural (length ms) ++ (nodes_bits 0 ms ++ vs) =
-      sym (append_assoc (natural (length ns)) (nodes_bits 0 ns) us) ∙ e ∙ append_assoc (natural (length ms)) (nodes_bits 0 ms) vs in
+    sym (append_assoc (natural (length ns)) (nodes_bits 0 ns) us) ∙ e ∙ append_assoc (natural (length ms)) (nodes_bits 0 ms) vs in
     let count = natural_apart (length ns) (length ms) (nodes_bits 0 ns ++ us) (nodes_bits 0 ms ++ vs) some some' grouped in
     nodes_apart [] 0 ns ms us vs refl count.0 h g c d count.1
 
 pub one_list : (xs : List ℕ) (ns ms : List Node) → AreCarried ns → AreCarried ms → Spelled xs ns → Spelled xs ms → ns ≡ ms
 one_list xs ns ms c d s t =
     program_apart ns ms (replicate s.padded.zeros false) (replicate t.padded.zeros false) s.placed t.placed s.rooted.1 t.rooted.1 c d
-        (sym s.padded.same ∙ t.padded.same)
+    (sym s.padded.same ∙ t.padded.same)
 
 -- the bits of whole bytes, up to fewer than eight zeros, are those of one list of bytes
 pub one_padding : (xs ys : List ℕ) (bits : List Bool) → AreBelow256 xs → AreBelow256 ys → IsPadded xs bits → IsPadded ys bits → xs ≡ ys
 one_padding xs ys bits h g p q =
     let long : 8 * length xs ≡ length bits + p.zeros =
-      sym (bytes_length xs) ∙ ap length p.same ∙ length-append bits (replicate p.zeros false) ∙ ap (λ k. length bits + k) (length-replicate p.zeros false) in
+    sym (bytes_length xs) ∙ ap length p.same ∙ length-append bits (replicate p.zeros false) ∙ ap (λ k. length bits + k) (length-replicate p.zeros false) in
     let long' : 8 * length ys ≡ length bits + q.zeros =
-      sym (bytes_length ys) ∙ ap length q.same ∙ length-append bits (replicate q.zeros false) ∙ ap (λ k. length bits + k) (length-replicate q.zeros false) in
+    sym (bytes_length ys) ∙ ap length q.same ∙ length-append bits (replicate q.zeros false) ∙ ap (λ k. length bits + k) (length-replicate q.zeros false) in
     let few : p.zeros < 8 = p.few in
     let few' : q.zeros < 8 = q.few in
     let count : length xs ≡ length ys = omega (arith, long, long', few, few') in
@@ -231,7 +230,7 @@ codes_apart [] (w ∷ ws) xs us vs h g e = elim h [ ]
 codes_apart (k ∷ ks) (w ∷ ws) [] us vs h g e = elim g [ ]
 codes_apart (k ∷ ks) (w ∷ ws) (x ∷ xs) us vs h g e =
     let grouped : code w ++ (codes_of ws ++ us) ≡ code x ++ (codes_of xs ++ vs) =
-      sym (append_assoc (code w) (codes_of ws) us) ∙ e ∙ append_assoc (code x) (codes_of xs) vs in
+    sym (append_assoc (code w) (codes_of ws) us) ∙ e ∙ append_assoc (code x) (codes_of xs) vs in
     let first = code_apart k w x (codes_of ws ++ us) (codes_of xs ++ vs) h.0 g.0 grouped in
     let front : w ≡ x = first.0 in
     let rest : ws ≡ xs = codes_apart ks ws xs us vs h.1 g.1 first.1 in

@@ -1,7 +1,7 @@
 -- Each shown node of a placed list unfolds to its tree, and in a typed list the tree has the node's arrow.
 use Rattle.std.proofs.Common.{◌≡◌, refl, ap, sym, subst, ◌∙◌, ℕ, zero, suc, ◌<◌, List, [], ◌∷◌, take, Option, Some, None, arith, add-one}
 use Rattle.std.specs.Prelude.{slice_get}
-use Rattle.simplicity.specs.Types.{Kind, One, Sum, Product, word_kind}
+use Rattle.simplicity.specs.Types.{Kind, Product}
 use Rattle.simplicity.specs.Terms as term
 use Rattle.simplicity.specs.Terms.{Term}
 use Rattle.simplicity.specs.Nodes as node
@@ -34,23 +34,23 @@ case_unfolds ns i j k placed is before (BothShown s t) =
     let left : part_at (parts ns) j ≡ Tree (tree_of_node ns j) = shown_at ns j s.child placed s.there s.shown in
     let right : part_at (parts ns) k ≡ Tree (tree_of_node ns k) = shown_at ns k t.child placed t.there t.shown in
     let made : Tree (case_of (part_at (parts ns) j) (part_at (parts ns) k)) ≡ Tree (term.Case (tree_of_node ns j) (tree_of_node ns k)) =
-      ap (λ p. Tree (case_of p (part_at (parts ns) k))) left ∙ ap (λ p. Tree (case_of (Tree (tree_of_node ns j)) p)) right in
+    ap (λ p. Tree (case_of p (part_at (parts ns) k))) left ∙ ap (λ p. Tree (case_of (Tree (tree_of_node ns j)) p)) right in
     tree_by ns i (node.Case j k) (term.Case (tree_of_node ns j) (tree_of_node ns k)) placed is made
-        (node.UnfoldCase i j k (tree_of_node ns j) (tree_of_node ns k) is (child_of ns i j before s) (child_of ns i k before t))
+    (node.UnfoldCase i j k (tree_of_node ns j) (tree_of_node ns k) is (child_of ns i j before s) (child_of ns i k before t))
 case_unfolds ns i j k placed is before (RightHidden h s there earlier) =
     let left : part_at (parts ns) j ≡ Tree (tree_of_node ns j) = shown_at ns j s.child placed s.there s.shown in
     let right : part_at (parts ns) k ≡ HiddenSide h = hidden_side_at ns k h placed there in
     let made : Tree (case_of (part_at (parts ns) j) (part_at (parts ns) k)) ≡ Tree (term.AssertL (tree_of_node ns j) h) =
-      ap (λ p. Tree (case_of p (part_at (parts ns) k))) left ∙ ap (λ p. Tree (case_of (Tree (tree_of_node ns j)) p)) right in
+    ap (λ p. Tree (case_of p (part_at (parts ns) k))) left ∙ ap (λ p. Tree (case_of (Tree (tree_of_node ns j)) p)) right in
     tree_by ns i (node.Case j k) (term.AssertL (tree_of_node ns j) h) placed is made
-        (node.UnfoldAssertL i j k (tree_of_node ns j) h is (child_of ns i j before s) there)
+    (node.UnfoldAssertL i j k (tree_of_node ns j) h is (child_of ns i j before s) there)
 case_unfolds ns i j k placed is before (LeftHidden h there earlier t) =
     let left : part_at (parts ns) j ≡ HiddenSide h = hidden_side_at ns j h placed there in
     let right : part_at (parts ns) k ≡ Tree (tree_of_node ns k) = shown_at ns k t.child placed t.there t.shown in
     let made : Tree (case_of (part_at (parts ns) j) (part_at (parts ns) k)) ≡ Tree (term.AssertR h (tree_of_node ns k)) =
-      ap (λ p. Tree (case_of p (part_at (parts ns) k))) left ∙ ap (λ p. Tree (case_of (HiddenSide h) p)) right in
+    ap (λ p. Tree (case_of p (part_at (parts ns) k))) left ∙ ap (λ p. Tree (case_of (HiddenSide h) p)) right in
     tree_by ns i (node.Case j k) (term.AssertR h (tree_of_node ns k)) placed is made
-        (node.UnfoldAssertR i j k h (tree_of_node ns k) is there (child_of ns i k before t))
+    (node.UnfoldAssertR i j k h (tree_of_node ns k) is there (child_of ns i k before t))
 
 node_unfolds : (ns : List Node) (i : ℕ) (n : Node) → IsPlaced ns → slice_get ns i ≡ Some n → IsShown (Some n) → CanFollow (take i ns) n → Before ns i →
     Unfolds ns i (tree_of_node ns i)
@@ -58,24 +58,24 @@ node_unfolds ns i node.Iden placed is shown follows before = tree_by ns i node.I
 node_unfolds ns i node.UnitNode placed is shown follows before = tree_by ns i node.UnitNode term.UnitTerm placed is refl (node.UnfoldUnit i is)
 node_unfolds ns i (node.Injl j) placed is shown follows before =
     tree_by ns i (node.Injl j) (term.Injl (tree_of_node ns j)) placed is refl
-        (node.UnfoldInjl i j (tree_of_node ns j) is (child_of ns i j before (shown_before ns i j follows)))
+    (node.UnfoldInjl i j (tree_of_node ns j) is (child_of ns i j before (shown_before ns i j follows)))
 node_unfolds ns i (node.Injr j) placed is shown follows before =
     tree_by ns i (node.Injr j) (term.Injr (tree_of_node ns j)) placed is refl
-        (node.UnfoldInjr i j (tree_of_node ns j) is (child_of ns i j before (shown_before ns i j follows)))
+    (node.UnfoldInjr i j (tree_of_node ns j) is (child_of ns i j before (shown_before ns i j follows)))
 node_unfolds ns i (node.Take j) placed is shown follows before =
     tree_by ns i (node.Take j) (term.Take (tree_of_node ns j)) placed is refl
-        (node.UnfoldTake i j (tree_of_node ns j) is (child_of ns i j before (shown_before ns i j follows)))
+    (node.UnfoldTake i j (tree_of_node ns j) is (child_of ns i j before (shown_before ns i j follows)))
 node_unfolds ns i (node.Drop j) placed is shown follows before =
     tree_by ns i (node.Drop j) (term.Drop (tree_of_node ns j)) placed is refl
-        (node.UnfoldDrop i j (tree_of_node ns j) is (child_of ns i j before (shown_before ns i j follows)))
+    (node.UnfoldDrop i j (tree_of_node ns j) is (child_of ns i j before (shown_before ns i j follows)))
 node_unfolds ns i (node.Comp j k) placed is shown follows before =
     tree_by ns i (node.Comp j k) (term.Comp (tree_of_node ns j) (tree_of_node ns k)) placed is refl
-        (node.UnfoldComp i j k (tree_of_node ns j) (tree_of_node ns k) is (child_of ns i j before (shown_before ns i j follows.0))
-            (child_of ns i k before (shown_before ns i k follows.1)))
+    (node.UnfoldComp i j k (tree_of_node ns j) (tree_of_node ns k) is (child_of ns i j before (shown_before ns i j follows.0))
+    (child_of ns i k before (shown_before ns i k follows.1)))
 node_unfolds ns i (node.Pair j k) placed is shown follows before =
     tree_by ns i (node.Pair j k) (term.PairTerm (tree_of_node ns j) (tree_of_node ns k)) placed is refl
-        (node.UnfoldPair i j k (tree_of_node ns j) (tree_of_node ns k) is (child_of ns i j before (shown_before ns i j follows.0))
-            (child_of ns i k before (shown_before ns i k follows.1)))
+    (node.UnfoldPair i j k (tree_of_node ns j) (tree_of_node ns k) is (child_of ns i j before (shown_before ns i j follows.0))
+    (child_of ns i k before (shown_before ns i k follows.1)))
 node_unfolds ns i (node.Case j k) placed is shown follows before = case_unfolds ns i j k placed is before (sides_at ns i j k follows)
 node_unfolds ns i (node.Hidden h) placed is shown follows before = elim shown [ ]
 node_unfolds ns i (node.Fail e) placed is shown follows before = tree_by ns i (node.Fail e) (term.Fail e) placed is refl (node.UnfoldFail i e is)
@@ -88,7 +88,7 @@ unfolding Before
 unfold_below ns zero placed j m h is shown = absurd (omega arith)
 unfold_below ns (suc turns) placed j m h is shown =
     node_unfolds ns j m placed is shown (follows_at ns j m placed is)
-        (λ i n g there seen. unfold_below ns turns placed i n (omega arith) there seen)
+    (λ i n g there seen. unfold_below ns turns placed i n (omega arith) there seen)
 
 found : (ns : List Node) (i : ℕ) (o : Option Node) → IsPlaced ns → slice_get ns i ≡ o → IsShown o → Unfolds ns i (tree_of_node ns i)
 unfolding Before
@@ -227,19 +227,19 @@ unfolding_typed ns ts _ _ h (node.UnfoldDrop i j t is on) a b has =
     drop_typed (witness_targets ns ts) ts j t a b (unfolding_typed ns ts j t h on) (meets_at ts ns i (node.Drop j) a b h is has)
 unfolding_typed ns ts _ _ h (node.UnfoldComp i j k s t is g on) a b has =
     comp_typed (witness_targets ns ts) ts j k s t a b (unfolding_typed ns ts j s h g) (unfolding_typed ns ts k t h on)
-        (meets_at ts ns i (node.Comp j k) a b h is has)
+    (meets_at ts ns i (node.Comp j k) a b h is has)
 unfolding_typed ns ts _ _ h (node.UnfoldCase i j k s t is g on) a b has =
     case_typed (witness_targets ns ts) ts j k s t a b (unfolding_typed ns ts j s h g) (unfolding_typed ns ts k t h on)
-        (unfolds_arrow ns ts j s h g) (unfolds_arrow ns ts k t h on) (meets_at ts ns i (node.Case j k) a b h is has)
+    (unfolds_arrow ns ts j s h g) (unfolds_arrow ns ts k t h on) (meets_at ts ns i (node.Case j k) a b h is has)
 unfolding_typed ns ts _ _ h (node.UnfoldAssertL i j k s e is g hidden) a b has =
     assertl_typed (witness_targets ns ts) ts j k s e a b (unfolding_typed ns ts j s h g) (hidden_at ts ns k e h hidden)
-        (meets_at ts ns i (node.Case j k) a b h is has)
+    (meets_at ts ns i (node.Case j k) a b h is has)
 unfolding_typed ns ts _ _ h (node.UnfoldAssertR i j k e t is hidden on) a b has =
     assertr_typed (witness_targets ns ts) ts j k e t a b (hidden_at ts ns j e h hidden) (unfolding_typed ns ts k t h on)
-        (meets_at ts ns i (node.Case j k) a b h is has)
+    (meets_at ts ns i (node.Case j k) a b h is has)
 unfolding_typed ns ts _ _ h (node.UnfoldPair i j k s t is g on) a b has =
     pair_typed (witness_targets ns ts) ts j k s t a b (unfolding_typed ns ts j s h g) (unfolding_typed ns ts k t h on)
-        (meets_at ts ns i (node.Pair j k) a b h is has)
+    (meets_at ts ns i (node.Pair j k) a b h is has)
 unfolding_typed ns ts _ _ h (node.UnfoldFail i e is) a b has = fail_typed (witness_targets ns ts) ts e a b (meets_at ts ns i (node.Fail e) a b h is has)
 unfolding_typed ns ts _ _ h (node.UnfoldWitness i is) a b has =
     row.TypedWitness (witness_number ns i) a b (witness_target ts ns ts i a b h is has)

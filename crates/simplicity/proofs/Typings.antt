@@ -1,10 +1,10 @@
 -- A typing of a list, entry by entry.
-use Rattle.std.proofs.Common.{◌≡◌, refl, ap, sym, ◌∙◌, ℕ, zero, suc, ◌+◌, List, [], ◌∷◌, length, Option, Some, None, arith}
+use Rattle.std.proofs.Common.{◌≡◌, refl, ap, ◌∙◌, ℕ, zero, suc, List, [], ◌∷◌, length, Option, Some, None, arith}
 use Rattle.std.specs.Prelude.{slice_get}
-use Rattle.simplicity.specs.Types.{Kind, One, Sum, Product, IsBelow}
+use Rattle.simplicity.specs.Types.{Kind}
 use Rattle.simplicity.specs.Nodes.{Node, IsShown, IsHidden}
 use Rattle.simplicity.specs.Nodes as node
-use Rattle.simplicity.specs.Typing.{Typing, Arrow, HasArrow, HasNoArrow, Meets, EntryMeets, EntriesMeet, IsEntryBelow, IsTypingBelow}
+use Rattle.simplicity.specs.Typing.{Typing, Arrow, HasArrow, HasNoArrow, Meets, EntryMeets, EntriesMeet}
 
 -- a typing has an entry for each node
 pub typing_length : (ts : Typing) (ns : List Node) (es : Typing) → EntriesMeet ts ns es → length es ≡ length ns

@@ -1,10 +1,7 @@
 -- Unfolding a placed list: each node's part is made of those of its children.
-use Rattle.std.proofs.Common.{◌≡◌, refl, ap, sym, subst, ◌∙◌, ℕ, zero, suc, ◌+◌, ◌<◌, ◌≤◌, List, [], ◌∷◌, ◌++◌, length, take, Option, Some, None, arith, append_assoc, length-append}
+use Rattle.std.proofs.Common.{◌≡◌, refl, ap, sym, subst, ◌∙◌, ℕ, zero, suc, ◌+◌, ◌<◌, List, [], ◌∷◌, ◌++◌, length, take, Option, Some, None, arith, append_assoc, length-append}
 use Rattle.std.proofs.lemmas.List.{append-nil}
-use Rattle.std.proofs.lemmas.Option.{slice_get_within}
 use Rattle.std.specs.Prelude.{slice_get}
-use Rattle.std.specs.Option.{unwrap_or}
-use Rattle.simplicity.specs.Terms as term
 use Rattle.simplicity.specs.Terms.{Term}
 use Rattle.simplicity.specs.Nodes as node
 use Rattle.simplicity.specs.Nodes.{Node, Part, Tree, HiddenSide, children, IsShown, IsHidden, AreCaseSides, CanFollow, PlacedAfter, IsPlaced, part_at, tree_at, tree_of_part, case_of, part_of, parts_from, parts, count_after, witness_number, tree_of_node, Unfolds}
@@ -73,8 +70,8 @@ made_from ps w (m ∷ ns) zero n is =
 made_from ps w (m ∷ ns) (suc i) n is =
     let place : length (ps ++ part_of ps w m ∷ []) + i ≡ length ps + suc i = simp length-append (omega arith) in
     made_at (parts_from ps w (m ∷ ns)) n n (length (ps ++ part_of ps w m ∷ []) + i) (length ps + suc i) (count_after m w + witness_number ns i)
-        (w + count_after m (witness_number ns i)) refl place (count_later m w (witness_number ns i))
-        (made_from (ps ++ part_of ps w m ∷ []) (count_after m w) ns i n is)
+    (w + count_after m (witness_number ns i)) refl place (count_later m w (witness_number ns i))
+    (made_from (ps ++ part_of ps w m ∷ []) (count_after m w) ns i n is)
 
 -- the parts at a node's children are all that its part takes from those before it
 part_same : (ps qs : List Part) (w k : ℕ) (n : Node) → AreUnder k (children n) → ((j : ℕ) → j < k → slice_get ps j ≡ slice_get qs j) →

@@ -1,8 +1,8 @@
 -- Laws of values: their cells, their codes, shrinking, and words.
-use Rattle.std.proofs.Common.{◌≡◌, refl, ap, sym, ◌∙◌, ℕ, zero, suc, ◌+◌, ◌-◌, ◌/◌, ◌%◌, max, Bool, true, false, List, [], ◌∷◌, ◌++◌, length, replicate, arith, append_assoc, length-append}
+use Rattle.std.proofs.Common.{◌≡◌, refl, ap, sym, ◌∙◌, ℕ, zero, suc, ◌/◌, ◌%◌, Bool, true, false, List, [], ◌++◌, length, arith, append_assoc, length-append}
 use Rattle.std.proofs.lemmas.List.{length-replicate}
-use Rattle.simplicity.specs.Types.{Kind, One, Sum, Product, Value, UnitValue, Inl, Inr, Pair, IsOf, AreOf, size, pad_left, pad_right, code, IsBelow, shrink, word_kind, word_value, word_count, bit_value, is_odd}
-use Rattle.simplicity.specs.Cells.{Cell, Bit, Undefined, cells, undefined}
+use Rattle.simplicity.specs.Types.{Kind, One, Sum, Product, Value, UnitValue, Inl, Inr, Pair, IsOf, size, code, IsBelow, shrink, word_kind, word_value, word_count, bit_value, is_odd}
+use Rattle.simplicity.specs.Cells.{cells}
 
 -- being of a type, as data
 pub data Of : Kind → Value → Type 0 where

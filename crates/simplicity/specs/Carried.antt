@@ -1,5 +1,5 @@
 -- The bits that nodes carry fit their fields (Simplicity Technical Report, "Serialization"; that a word has at most 2 ^ 8 bits is this project's own).
-use Rattle.std.specs.Prelude.{◌≡◌, ℕ, ◌^◌, ◌<◌, ◌≤◌, List, [], ◌∷◌, length}
+use Rattle.std.specs.Prelude.{◌≡◌, ℕ, ◌<◌, ◌≤◌, List, [], ◌∷◌, length}
 use Rattle.simplicity.specs.Types.{word_count}
 use Rattle.simplicity.specs.Nodes.{Node, Hidden, Fail, Word}
 

@@ -1,10 +1,14 @@
 -- Laws of the core language that every layer above may cite (this project's own).
-use Rattle.std.specs.Prelude.{◌≡◌, ℕ, ◌<◌, List, ◌++◌, Bool, length, Option, Some, None, slice_get}
+use Rattle.std.specs.Prelude.{◌≡◌, ℕ, ◌<◌, List, ◌++◌, Bool, length, Some, None, slice_get}
 use Rattle.simplicity.specs.Types.{Kind, Value, IsOf, AreOf, IsBelow, size, code, shrink}
 use Rattle.simplicity.specs.Cells.{cells}
+use Rattle.simplicity.specs.Terms as term
 use Rattle.simplicity.specs.Terms.{Term, Answer, meaning}
-use Rattle.simplicity.specs.Typing.{Typing, HasArrow, IsTyping, IsTyped, witness_targets}
+use Rattle.simplicity.specs.Typing.{Typing, Arrow, IsLeast, HasArrow, IsTyping, IsTyped, witness_targets}
 use Rattle.simplicity.specs.Nodes.{Node, IsPlaced, IsShown, Unfolds, tree_of_node}
+use Rattle.simplicity.specs.Order.{IsOrdered, IsInPlace}
+use Rattle.simplicity.specs.Accepted.{Accepted}
+use Rattle.simplicity.specs.Roots.{root, word_term}
 use Rattle.simplicity.specs.Carried.{AreCarried, AreBelow256}
 use Rattle.simplicity.specs.Spelling.{Spelled, IsNatural, IsStream, natural}
 
@@ -58,3 +62,25 @@ pub record SpellingDetermines : Type 0 where
 pub record StreamDetermines : Type 0 where
   pub bytes : (xs ys : List ℕ) (ks : List Kind) (vs : List Value) → AreBelow256 xs → AreBelow256 ys → IsStream xs ks vs → IsStream ys ks vs → xs ≡ ys
   pub values : (xs : List ℕ) (ks : List Kind) (us vs : List Value) → IsStream xs ks us → IsStream xs ks vs → us ≡ vs
+
+-- a list has at most one least typing with a root arrow
+abbrev pub LeastIsOne : Type 0
+LeastIsOne = (ns : List Node) (root : Arrow) (ts us : Typing) → IsLeast ns root ts → IsLeast ns root us → ts ≡ us
+
+-- a program and a stream are accepted at an arrow as at most one list, typing and witness
+pub record AcceptedAsOne : Type 0 where
+  pub list : (program stream : List ℕ) (root : Arrow) (ns ms : List Node) (ts us : Typing) (v w : List Value) → AreCarried ns → AreCarried ms →
+      Accepted program stream root ns ts v → Accepted program stream root ms us w → ns ≡ ms
+  pub typing : (program stream : List ℕ) (root : Arrow) (ns : List Node) (ts us : Typing) (v w : List Value) →
+      Accepted program stream root ns ts v → Accepted program stream root ns us w → ts ≡ us
+  pub witness : (program stream : List ℕ) (root : Arrow) (ns : List Node) (ts : Typing) (v w : List Value) →
+      Accepted program stream root ns ts v → Accepted program stream root ns ts w → v ≡ w
+
+-- a word has the root and the meaning of its term
+pub record WordsAreTerms : Type 0 where
+  pub same_root : (k n : ℕ) → root (term.Word k n) ≡ root (word_term k n)
+  pub same_meaning : (k n : ℕ) (w : List Value) (v : Value) → meaning (term.Word k n) w v ≡ meaning (word_term k n) w v
+
+-- each node of an ordered list is in its place
+abbrev pub OrderPlaces : Type 0
+OrderPlaces = (ns : List Node) (i : ℕ) → IsOrdered ns → i < length ns → IsInPlace ns i

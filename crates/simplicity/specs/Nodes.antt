@@ -149,9 +149,9 @@ pub data Unfolds (ns : List Node) : ℕ → Term → Type 0 where
   UnfoldComp : (i j k : ℕ) (s t : Term) → slice_get ns i ≡ Some (Comp j k) → Unfolds ns j s → Unfolds ns k t → Unfolds ns i (term.Comp s t)
   UnfoldCase : (i j k : ℕ) (s t : Term) → slice_get ns i ≡ Some (Case j k) → Unfolds ns j s → Unfolds ns k t → Unfolds ns i (term.Case s t)
   UnfoldAssertL : (i j k : ℕ) (s : Term) (h : List ℕ) → slice_get ns i ≡ Some (Case j k) → Unfolds ns j s → slice_get ns k ≡ Some (Hidden h) →
-    Unfolds ns i (term.AssertL s h)
+      Unfolds ns i (term.AssertL s h)
   UnfoldAssertR : (i j k : ℕ) (h : List ℕ) (t : Term) → slice_get ns i ≡ Some (Case j k) → slice_get ns j ≡ Some (Hidden h) → Unfolds ns k t →
-    Unfolds ns i (term.AssertR h t)
+      Unfolds ns i (term.AssertR h t)
   UnfoldPair : (i j k : ℕ) (s t : Term) → slice_get ns i ≡ Some (Pair j k) → Unfolds ns j s → Unfolds ns k t → Unfolds ns i (term.PairTerm s t)
   UnfoldFail : (i : ℕ) (e : List ℕ) → slice_get ns i ≡ Some (Fail e) → Unfolds ns i (term.Fail e)
   UnfoldWitness : (i : ℕ) → slice_get ns i ≡ Some Witness → Unfolds ns i (term.Witness (witness_number ns i))
