@@ -1,0 +1,77 @@
+-- Where a placed list's children stand, and the bits of one node more.
+use Rattle.std.proofs.Common.{◌≡◌, ℕ, zero, suc, ◌+◌, ◌<◌, List, [], ◌∷◌, ◌++◌, length, take, get_or, map, Bool, Some, None, slice_get, refl, sym, ap, ◌∙◌, arith, append_assoc, append-nil, length-append, add-one, length-take, Option, IsSome}
+use Rattle.simplicity.specs.Nodes as node
+use Rattle.simplicity.specs.Nodes.{Node, CanFollow, PlacedAfter, IsPlaced, IsShown, AreCaseSides}
+use Rattle.simplicity.specs.Spelling.{node_bits, nodes_bits}
+use Rattle.term_core.specs.Nodes.{node_of, nodes_of}
+use Rattle.term_core.specs.declared.node.ListNode.{ListNode}
+use Rattle.term_core.specs.declared.node.ListNode.TheVariants as code
+use Rattle.bit_codec.specs.Children.{AreBefore}
+
+shown_within : (ns : List Node) (i : ℕ) → IsShown (slice_get ns i) → i < length ns
+shown_within [] i shown = absurd shown
+shown_within (n ∷ ns) zero shown = omega arith
+shown_within (n ∷ ns) (suc i) shown = omega (arith, shown_within ns i shown)
+
+there_within : (ns : List Node) (i : ℕ) → IsSome (slice_get ns i) → i < length ns
+there_within [] i there = cc
+there_within (n ∷ ns) zero there = omega arith
+there_within (n ∷ ns) (suc i) there = omega (arith, there_within ns i there)
+
+sides_there : (s t : Option Node) → AreCaseSides s t → IsSome s × IsSome t
+sides_there None t h = absurd h
+sides_there (Some s) (Some t) h = (refl, refl)
+sides_there (Some s) None h = absurd h
+
+-- a node's children stand among those that it follows
+follows_children : (ns : List Node) (n : Node) → CanFollow ns n → AreBefore (length ns) n
+follows_children ns (node.Injl i) h = (shown_within ns i h, tt)
+follows_children ns (node.Injr i) h = (shown_within ns i h, tt)
+follows_children ns (node.Take i) h = (shown_within ns i h, tt)
+follows_children ns (node.Drop i) h = (shown_within ns i h, tt)
+follows_children ns (node.Comp i j) h = (shown_within ns i h.0, (shown_within ns j h.1, tt))
+follows_children ns (node.Pair i j) h = (shown_within ns i h.0, (shown_within ns j h.1, tt))
+follows_children ns (node.Case i j) h =
+    let there : IsSome (slice_get ns i) × IsSome (slice_get ns j) = sides_there _ _ h in
+    (there_within ns i there.0, (there_within ns j there.1, tt))
+follows_children ns node.Iden h = tt
+follows_children ns node.UnitNode h = tt
+follows_children ns (node.Hidden b) h = tt
+follows_children ns (node.Fail b) h = tt
+follows_children ns node.Witness h = tt
+follows_children ns (node.Word k n) h = tt
+
+children_after : (before : List Node) (raw : List ListNode) (i : ℕ) → PlacedAfter before (nodes_of raw) → i < length raw → AreBefore (length before + i) (node_of (get_or raw i code.Iden))
+children_after before [] i placed within = absurd (omega arith)
+children_after before (m ∷ raw) zero placed within = let e : length before + 0 ≡ length before = omega arith in rw e (follows_children before (node_of m) placed.0)
+children_after before (m ∷ raw) (suc i) placed within =
+    let e : length (before ++ node_of m ∷ []) + i ≡ length before + suc i = omega (arith, length-append before (node_of m ∷ [])) in
+    rw e at (children_after (before ++ node_of m ∷ []) raw i placed.1 (omega arith))
+
+-- in a placed list the children of the node at a place stand before it
+pub children_placed : (raw : List ListNode) (ns : List Node) (i : ℕ) → nodes_of raw ≡ ns → IsPlaced ns → i < length raw → AreBefore i (node_of (get_or raw i code.Iden))
+children_placed raw ns i is placed within =
+    let e : 0 + i ≡ i = omega arith in
+    rw e at (children_after [] raw i (rw is placed) within)
+
+nodes_bits-append : (k : ℕ) (xs ys : List Node) → nodes_bits k (xs ++ ys) ≡ nodes_bits k xs ++ nodes_bits (k + length xs) ys
+nodes_bits-append k [] ys = let e : k + 0 ≡ k = omega arith in rw e refl
+nodes_bits-append k (x ∷ xs) ys =
+    let e : k + 1 + length xs ≡ k + suc (length xs) = omega arith in
+    rw (nodes_bits-append (k + 1) xs ys, e, append_assoc) refl
+
+length-nodes : (raw : List ListNode) → length (nodes_of raw) ≡ length raw
+length-nodes [] = refl
+length-nodes (m ∷ raw) = ap suc (length-nodes raw)
+
+take-nodes : (raw : List ListNode) (i : ℕ) → i < length raw → take (suc i) (nodes_of raw) ≡ take i (nodes_of raw) ++ node_of (get_or raw i code.Iden) ∷ []
+take-nodes [] i within = absurd (omega arith)
+take-nodes (m ∷ raw) zero within = refl
+take-nodes (m ∷ raw) (suc i) within = ap (λ rest. node_of m ∷ rest) (take-nodes raw i (omega arith))
+
+-- the bits of the nodes up to a place, and of one node more
+pub written_next : (raw : List ListNode) (ns : List Node) (i : ℕ) (start old new : List Bool) → nodes_of raw ≡ ns → i < length raw → old ≡ start ++ nodes_bits 0 (take i ns) → new ≡ old ++ node_bits i (node_of (get_or raw i code.Iden)) → new ≡ start ++ nodes_bits 0 (take (i + 1) ns)
+written_next raw ns i start old new is within before after =
+    let few : length (take i (nodes_of raw)) ≡ i = omega (arith, length-take i (nodes_of raw), length-nodes raw) in
+    let none : 0 + i ≡ i = omega arith in
+    rw (after, before, ← is, add-one, take-nodes raw i within, nodes_bits-append 0 (take i (nodes_of raw)) (node_of (get_or raw i code.Iden) ∷ []), few, none) (simp (append_assoc, append-nil))

@@ -1,0 +1,5 @@
+use Rattle.std.proofs.Common.{◌≡◌, ◌++◌, false, replicate}
+use Rattle.cell_bits.proofs.writer.BitWriter.finish.Given as goal
+
+abbrev pub invariant-loop : goal.invariant-loop
+invariant-loop l = l.bits.items ≡ l.fn.self ++ replicate l.counter false

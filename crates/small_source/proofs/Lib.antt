@@ -1,0 +1,8 @@
+pub mod Lexing
+pub mod Fits
+pub mod Written
+pub mod Fresh
+pub mod Sound
+pub mod Turns
+pub mod Cut
+pub mod Complete

@@ -1,0 +1,4 @@
+use Rattle.small_source.proofs.read.+result_type.Given as goal
+
+abbrev pub decreases-result_type : goal.decreases-result_type
+decreases-result_type l = l.depth

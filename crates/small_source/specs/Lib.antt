@@ -1,0 +1,5 @@
+pub mod Names
+pub mod Small
+pub mod Tokens
+pub mod Read
+pub mod View

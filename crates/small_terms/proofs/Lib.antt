@@ -1,0 +1,10 @@
+mod Lists
+mod Grown
+mod Ordered
+mod Trees
+mod Paths
+mod Found
+mod Emitted
+mod Listed
+mod Planned
+mod Compiled

@@ -1,0 +1,87 @@
+-- A plan that picks a byte gives its value on the tuple, and each place has such a plan.
+use Rattle.std.proofs.Common.{◌≡◌, ℕ, zero, suc, ◌+◌, ◌-◌, ◌/◌, ◌<◌, ◌≤◌, List, [], ◌∷◌, ◌++◌, length, take, drop, slice_get, Option, Some, None, refl, sym, ap, ◌∙◌, arith, length-take, length-drop, Bool, true, false, nat_lt}
+use Rattle.std.proofs.lemmas.Bool.Decides.{nat_tests}
+use Rattle.simplicity.specs.Types.{Value, UnitValue, Pair}
+use Rattle.simplicity.specs.Terms.{meaning}
+use Rattle.small_terms.specs.Plan.{Plan, Whole, First, Rest, Both, Picks, whole, first, rest, term_of, count_of}
+use Rattle.small_terms.specs.Tuples.{halves, tuple_value}
+
+-- turns past the length change nothing
+halves_turns : {A : Type 0} (e : A) (f : A → A → A) (s t : ℕ) (xs : List A) → length xs ≤ s → length xs ≤ t → halves s e f xs ≡ halves t e f xs
+halves_turns e f s t [] few few' = refl
+halves_turns e f s t (x ∷ []) few few' = refl
+halves_turns e f zero t (x ∷ y ∷ more) few few' = absurd (omega arith)
+halves_turns e f (suc s) zero (x ∷ y ∷ more) few few' = absurd (omega arith)
+halves_turns {A} e f (suc s) (suc t) (x ∷ y ∷ more) few few' =
+    let n : ℕ = length (x ∷ y ∷ more) in
+    let front : length (take (length (x ∷ y ∷ more) / 2) (x ∷ y ∷ more)) < length (x ∷ y ∷ more) = omega (arith, length-take (length (x ∷ y ∷ more) / 2) (x ∷ y ∷ more)) in
+    let back : length (drop (length (x ∷ y ∷ more) / 2) (x ∷ y ∷ more)) < length (x ∷ y ∷ more) = omega (arith, length-drop (length (x ∷ y ∷ more) / 2) (x ∷ y ∷ more)) in
+    cc (halves_turns e f s t (take (length (x ∷ y ∷ more) / 2) (x ∷ y ∷ more)) (omega arith) (omega arith), halves_turns e f s t (drop (length (x ∷ y ∷ more) / 2) (x ∷ y ∷ more)) (omega arith) (omega arith))
+
+-- more than one value are a pair of two tuples
+pub tuple_pair : (vs : List Value) → 1 < length vs → tuple_value vs ≡ Pair (tuple_value (take (length vs / 2) vs)) (tuple_value (drop (length vs / 2) vs))
+tuple_pair [] some = absurd (omega arith)
+tuple_pair (x ∷ []) some = absurd (omega arith)
+tuple_pair (x ∷ y ∷ more) some =
+    let front : length (take (length (x ∷ y ∷ more) / 2) (x ∷ y ∷ more)) < length (x ∷ y ∷ more) = omega (arith, length-take (length (x ∷ y ∷ more) / 2) (x ∷ y ∷ more)) in
+    let back : length (drop (length (x ∷ y ∷ more) / 2) (x ∷ y ∷ more)) < length (x ∷ y ∷ more) = omega (arith, length-drop (length (x ∷ y ∷ more) / 2) (x ∷ y ∷ more)) in
+    cc (
+      halves_turns UnitValue Pair (suc (length more)) (length (take (length (x ∷ y ∷ more) / 2) (x ∷ y ∷ more))) (take (length (x ∷ y ∷ more) / 2) (x ∷ y ∷ more)) (omega arith) (omega arith),
+      halves_turns UnitValue Pair (suc (length more)) (length (drop (length (x ∷ y ∷ more) / 2) (x ∷ y ∷ more))) (drop (length (x ∷ y ∷ more) / 2) (x ∷ y ∷ more)) (omega arith) (omega arith),
+    )
+
+get_take : {X : Type 0} (xs : List X) (n i : ℕ) (x : X) → slice_get xs i ≡ Some x → i < n → slice_get (take n xs) i ≡ Some x
+get_take [] n i x there less = cc
+get_take (z ∷ xs) zero i x there less = absurd (omega arith)
+get_take (z ∷ xs) (suc n) zero x there less = there
+get_take (z ∷ xs) (suc n) (suc i) x there less = get_take xs n i x there (omega arith)
+
+get_drop : {X : Type 0} (xs : List X) (n i j : ℕ) (x : X) → slice_get xs i ≡ Some x → i ≡ n + j → slice_get (drop n xs) j ≡ Some x
+get_drop [] n i j x there at = cc
+get_drop (z ∷ xs) zero i j x there at = let e : i ≡ j = omega arith in rw e at there
+get_drop (z ∷ xs) (suc n) zero j x there at = absurd (omega arith)
+get_drop (z ∷ xs) (suc n) (suc i) j x there at = get_drop xs n i j x there (omega arith)
+
+one_value : (vs : List Value) (place : ℕ) (v : Value) → length vs ≡ 1 → place ≡ 0 → slice_get vs place ≡ Some v → tuple_value vs ≡ v
+one_value [] place v one at there = absurd (omega arith)
+one_value (x ∷ []) zero v one at there = cc
+one_value (x ∷ []) (suc place) v one at there = absurd (omega arith)
+one_value (x ∷ y ∷ more) place v one at there = absurd (omega arith)
+
+-- a plan that picks a place gives the value there
+pub picked : {count place : ℕ} {plan : Plan} → Picks count place plan → (vs : List Value) (v : Value) → length vs ≡ count → slice_get vs place ≡ Some v → meaning (term_of plan) [] (tuple_value vs) ≡ Some v
+picked {place = place} (whole one at) vs v long there = ap Some (one_value vs place v (long ∙ one) at there)
+picked {count} {place} (first some less part) vs v long there =
+    let few : length (take (length vs / 2) vs) ≡ count / 2 = omega (arith, length-take (length vs / 2) vs) in
+    rw (tuple_pair vs (omega arith)) (picked part (take (length vs / 2) vs) v few (get_take vs (length vs / 2) place v there (omega arith)))
+picked {count} {place} (rest some past part) vs v long there =
+    let few : length (drop (length vs / 2) vs) ≡ count - count / 2 = omega (arith, length-drop (length vs / 2) vs) in
+    rw (tuple_pair vs (omega arith)) (picked part (drop (length vs / 2) vs) v few (get_drop vs (length vs / 2) place (place - count / 2) v there (omega arith)))
+
+picks_side : (count place : ℕ) → 1 < count → place < count → (b : Bool) → nat_lt place (count / 2) ≡ b → (place < count / 2 → (plan : Plan) × Picks (count / 2) place plan) → (place - count / 2 < count - count / 2 → (plan : Plan) × Picks (count - count / 2) (place - count / 2) plan) → (plan : Plan) × Picks count place plan
+picks_side count place some less true test front back =
+    let within : place < count / 2 = grind (arith, nat_tests) in
+    let p : (plan : Plan) × Picks (count / 2) place plan = front within in
+    (First count p.0, first some within p.1)
+picks_side count place some less false test front back =
+    let past : count / 2 ≤ place = grind (arith, nat_tests) in
+    let p : (plan : Plan) × Picks (count - count / 2) (place - count / 2) plan = back (omega arith) in
+    (Rest count p.0, rest some past p.1)
+
+-- each place has a plan
+picks_within : (turns count place : ℕ) → count ≤ turns → place < count → (plan : Plan) × Picks count place plan
+picks_within zero count place few less = absurd (omega arith)
+picks_within (suc turns) zero place few less = absurd (omega arith)
+picks_within (suc turns) (suc zero) place few less = (Whole, whole refl (omega arith))
+picks_within (suc turns) (suc (suc n)) place few less =
+    picks_side (suc (suc n)) place (omega arith) less (nat_lt place (suc (suc n) / 2)) refl
+    (λ p. picks_within turns (suc (suc n) / 2) place (omega arith) p)
+    (λ p. picks_within turns (suc (suc n) - suc (suc n) / 2) (place - suc (suc n) / 2) (omega arith) p)
+
+pub picks : (count place : ℕ) → place < count → (plan : Plan) × Picks count place plan
+picks count place less = picks_within count count place (omega arith) less
+
+pub picks_count : {count place : ℕ} {plan : Plan} → Picks count place plan → count_of plan ≡ count
+picks_count (whole one at) = sym one
+picks_count (first some less part) = refl
+picks_count (rest some past part) = refl

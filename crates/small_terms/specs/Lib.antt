@@ -1,0 +1,7 @@
+pub mod Tuples
+pub mod Result
+pub mod Plan
+pub mod Entries
+pub mod Emitting
+pub mod Compiled
+pub mod Refusals

@@ -1,0 +1,5 @@
+use Rattle.term_core.proofs.Placed.{placed_push}
+use Rattle.term_core.proofs.list.NodeList.push.Goals as goal
+
+pub invariant_of-self-2 : goal.invariant_of-self-2
+invariant_of-self-2 c = rw c.in_ok-push.ensures.items (placed_push _ c.args.node c.args.self.now c.self.view_is c.self.invariant c.requires)

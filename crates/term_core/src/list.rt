@@ -1,0 +1,91 @@
+//! Lists of nodes.
+
+ghost use Rattle.std.specs.Prelude.{◌≡◌, ◌<◌, [], ◌∷◌, ◌++◌, length, slice_get, option_map, OnOk, OnErr, Some};
+ghost use Rattle.simplicity.specs.Nodes.{CanFollow, IsPlaced};
+ghost use Rattle.term_core.specs.Nodes.{node_of, nodes_of};
+
+use crate::node::ListNode;
+use std::alloc::{AllocError, Global};
+use std::marker::Model;
+
+/// A list of nodes in the order of their bits: children before their parents, hidden nodes as children of a case alone.
+#[derive(Drop)]
+pub struct NodeList {
+    nodes: Vec<ListNode>,
+}
+
+impl Model for NodeList {
+    ghost use Rattle.std.specs.Prelude.{List};
+    ghost use Rattle.simplicity.specs.Nodes.{Node, IsPlaced};
+    ghost use Rattle.term_core.specs.Nodes.{nodes_of};
+
+    ghost Value = { List Node };
+
+    ghost view = { λ l. nodes_of l.nodes.items };
+
+    ghost invariant = { λ l. IsPlaced (nodes_of l.nodes.items) };
+}
+
+impl NodeList {
+    /// The empty list. It takes no memory.
+    pub fn new(alloc: Global) -> NodeList
+        ensures { result ≡ [] }
+    {
+        NodeList {
+            nodes: Vec::new(alloc),
+        }
+    }
+
+    /// Appends a node. After an error the list is as before.
+    pub fn push(&mut self, node: ListNode) -> Result<(), AllocError>
+        requires { CanFollow self.old (node_of node) }
+        ensures ok { OnOk result (self.new ≡ self.old ++ node_of node ∷ []) }
+        ensures err { OnErr result (self.new ≡ self.old) }
+    {
+        self.nodes.push(node)?;
+        Ok(())
+    }
+
+    /// The number of nodes.
+    pub fn len(&self) -> usize
+        ensures { result ≡ length self.now }
+    {
+        self.nodes.len()
+    }
+
+    /// The node at a place.
+    pub fn get(&self, place: usize) -> &ListNode
+        requires { place < length self.now }
+        ensures { slice_get self.now place ≡ Some (node_of result.now) }
+    {
+        &self.nodes[place]
+    }
+
+    /// The nodes in their order.
+    pub fn as_slice(&self) -> &[ListNode]
+        ensures nodes { nodes_of result.now ≡ self.now }
+        ensures placed { IsPlaced self.now }
+    {
+        self.nodes.as_slice()
+    }
+}
+
+#[cfg(test)]
+mod tests {
+    use super::*;
+    use std::test::Fail;
+
+    #[test]
+    fn keeps_its_nodes(rt: HostRuntime) -> Result<(), Fail> {
+        let mut list = NodeList::new(rt.alloc());
+        list.push(ListNode::Iden)?;
+        list.push(ListNode::Drop(0))?;
+        assert_eq!(rt; list.len(), 2);
+        assert_eq!(rt; *list.get(1), ListNode::Drop(0));
+        assert_eq!(rt;
+            list.as_slice(),
+            [ListNode::Iden, ListNode::Drop(0)].as_slice()
+        );
+        Ok(())
+    }
+}
