@@ -4,6 +4,7 @@ mod Rows
 mod RowBits
 mod RowRuns
 mod RowRoots
+mod RowRefusals
 pub mod Inversion
 pub mod Typings
 pub mod Below

@@ -178,7 +178,7 @@ assert_least = record {
       let side = assertr_meets us 3 4 k last.0 (at 5 (node.Case 3 4) k last.0 refl test.2) (hidden_at us assert_nodes 3 fail_root h.typed refl) in
       let passed : last.0 ≡ One = unit_meets us (Product side.1 side.2) last.0 (at 4 node.UnitNode (Product side.1 side.2) last.0 refl side.4) in
       let parts = pair_parts us 1 0 One k (Sum side.0 side.1) side.2 (at 2 (node.Pair 1 0) One k refl test.1) side.3 in
-      let right = injr_part us 0 One (Sum side.0 side.1) side.0 side.1 (at 1 (node.Injr 0) One (Sum side.0 side.1) refl parts.0) refl in
+      let right = injr_part us 0 One (Sum side.0 side.1) side.0 side.1 (at 1 (node.Injr 0) One (Sum side.0 side.1) refl parts.0) (refl {a = Sum side.0 side.1}) in
       let one : side.1 ≡ One = unit_meets us One side.1 (at 0 node.UnitNode One side.1 refl right) in
       let rest : side.2 ≡ One = unit_meets us One side.2 (at 0 node.UnitNode One side.2 refl parts.1) in
       assert_below us h m k last.0 last.1 side.0 side.1 side.2 last.2 passed unit side.3 one rest

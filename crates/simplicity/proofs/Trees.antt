@@ -113,7 +113,7 @@ witness_target ts (n ∷ ns) [] i a b h is has = elim h [ ]
 witness_target ts (n ∷ ns) (e ∷ es) zero a b h is has =
     let same : n ≡ node.Witness = cc in
     let entry : e ≡ Some (arrow a b) = cc in
-    rw (same, entry) refl
+    rw (same, entry) (refl {a = Some b})
 witness_target ts (n ∷ ns) (e ∷ es) (suc i) a b h is has = witness_skipped ts n e ns es (witness_number ns i) b h.0 (witness_target ts ns es i a b h.1 is has)
 
 -- a node that unfolds is shown, so it has an arrow
