@@ -5,6 +5,7 @@ mod RowBits
 mod RowRuns
 mod RowRoots
 mod RowRefusals
+mod RowWitness
 pub mod Inversion
 pub mod Typings
 pub mod Below

@@ -8,7 +8,7 @@ use Rattle.simplicity.specs.Spelling.{Spelled, IsStream, byte_bits, program_bits
 use Rattle.simplicity.proofs.Rows.{empty_nodes, empty_bytes, same_nodes, same_bytes, second_nodes, second_bytes, swap_nodes, swap_bytes, five_nodes, five_bytes, assert_nodes, assert_bytes, endless_nodes, endless_bytes, loose_nodes, loose_bytes, fail_root, byte}
 
 -- bytes that hold a list's bits and so many zeros spell it
-spells : (bytes : List ℕ) (ns : List Node) (zeros : ℕ) → IsPlaced ns → HasRoot ns → zeros < 8 →
+pub spells : (bytes : List ℕ) (ns : List Node) (zeros : ℕ) → IsPlaced ns → HasRoot ns → zeros < 8 →
     byte_bits bytes ≡ program_bits ns ++ replicate zeros false → Spelled bytes ns
 spells bytes ns zeros placed rooted few same = record { placed = placed; rooted = rooted; padded = record { zeros = zeros; few = few; same = same } }
 

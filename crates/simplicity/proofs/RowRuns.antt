@@ -27,13 +27,13 @@ reach zero p s = Here s
 reach (suc n) p s = reach_turn (after n p) p s (turn p s) refl (λ u. reach n p u)
 
 -- the run on an input ends with a value of a type, at these totals
-record Runs (p : Program) (input : Value) (k : Kind) (output : Value) (t : Totals) : Type 0 where
+pub record Runs (p : Program) (input : Value) (k : Kind) (output : Value) (t : Totals) : Type 0 where
   end : State
   ran : RunEnds p input end
   holds : HoldsResult k output end
   cost : end.totals ≡ t
 
-runs : (n : ℕ) (p : Program) (input : Value) (k : Kind) (output : Value) (t : Totals) → turn p (after n p (start p input)) ≡ Ends →
+pub runs : (n : ℕ) (p : Program) (input : Value) (k : Kind) (output : Value) (t : Totals) → turn p (after n p (start p input)) ≡ Ends →
     HoldsResult k output (after n p (start p input)) → (after n p (start p input)).totals ≡ t → Runs p input k output t
 runs n p input k output t ends holds cost = record {
   end = after n p (start p input);
@@ -42,7 +42,7 @@ runs n p input k output t ends holds cost = record {
   cost = cost;
 }
 
-abbrev totals : ℕ → ℕ → ℕ → ℕ → Totals
+abbrev pub totals : ℕ → ℕ → ℕ → ℕ → Totals
 totals count work cells frames = record { count = count; work = work; cells = cells; frames = frames }
 
 empty_run : Runs (program empty_nodes empty_typing) UnitValue One UnitValue (totals 1 1 0 2)

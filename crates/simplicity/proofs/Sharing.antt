@@ -1,7 +1,7 @@
 -- Sharing by numbers: where some number of node and entry differs at each two places, the list is shared.
 use Rattle.std.proofs.Common.{◌≡◌, refl, ap, sym, ◌∙◌, ℕ, zero, suc, ◌+◌, ◌*◌, ◌<◌, Bool, true, false, not, ◌&&◌, ◌||◌, List, [], ◌∷◌, Option, Some, None, arith, eq-eqb}
-use Rattle.std.specs.Prelude.{slice_get, nat_eq}
-use Rattle.simplicity.specs.Types.{weight}
+use Rattle.std.specs.Prelude.{slice_get, slice_index, nat_eq}
+use Rattle.simplicity.specs.Types.{size, weight}
 use Rattle.simplicity.specs.Nodes.{Node}
 use Rattle.simplicity.specs.Nodes as node
 use Rattle.simplicity.specs.Order.{has}
@@ -67,15 +67,15 @@ mark (node.Injl t) = 2 + 16 * t
 mark (node.Injr t) = 3 + 16 * t
 mark (node.Take t) = 4 + 16 * t
 mark (node.Drop t) = 5 + 16 * t
-mark (node.Comp s t) = 6 + 16 * s + 256 * t
-mark (node.Case s t) = 7 + 16 * s + 256 * t
-mark (node.Pair s t) = 8 + 16 * s + 256 * t
-mark (node.Hidden h) = 9
+mark (node.Comp s t) = 6 + 16 * s + 4096 * t
+mark (node.Case s t) = 7 + 16 * s + 4096 * t
+mark (node.Pair s t) = 8 + 16 * s + 4096 * t
+mark (node.Hidden h) = 9 + 16 * slice_index h 0
 mark (node.Fail e) = 10
 mark node.Witness = 11
-mark (node.Word k n) = 12 + 16 * k + 256 * n
+mark (node.Word k n) = 12 + 16 * k + 4096 * n
 
--- and one for a node with its entry, by the weight of its source
+-- and one for a node with its entry, by the weight and the size of its source
 abbrev pub mark_with : Node → Option (Option Arrow) → ℕ
-mark_with n (Some (Some a)) = mark n + 65536 * weight a.source
+mark_with n (Some (Some a)) = mark n + 1048576 * weight a.source + 1099511627776 * size a.source
 mark_with n _ = mark n
