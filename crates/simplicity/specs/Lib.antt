@@ -12,5 +12,6 @@ pub mod Roots
 pub mod Machine
 pub mod Visits
 pub mod Pruning
+pub mod Canon
 pub mod Bounds
 pub mod Laws
