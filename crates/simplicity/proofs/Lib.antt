@@ -6,6 +6,7 @@ mod RowRuns
 mod RowRoots
 mod RowRefusals
 mod RowWitness
+mod RowPruned
 pub mod Inversion
 pub mod Typings
 pub mod Below

@@ -92,7 +92,7 @@ assert_typed = record {
 }
 
 -- an arrow by equal types
-same_arrow : (us : Typing) (i : ℕ) (a b c d : Kind) → HasArrow us i a b → a ≡ c → b ≡ d → HasArrow us i c d
+pub same_arrow : (us : Typing) (i : ℕ) (a b c d : Kind) → HasArrow us i a b → a ≡ c → b ≡ d → HasArrow us i c d
 same_arrow us i a b c d h e f = subst (λ (k : Kind). HasArrow us i c k) f (subst (λ (k : Kind). HasArrow us i k b) e h)
 
 -- the entries of every typing, in which one type is free
