@@ -1,5 +1,4 @@
 pub mod Naturals
-mod Examples
 mod Rows
 mod RowBits
 mod RowRuns
