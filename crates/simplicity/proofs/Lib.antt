@@ -1,2 +1,21 @@
 pub mod Naturals
-mod Examples
+mod Rows
+mod RowBits
+mod RowRuns
+mod RowRoots
+mod RowRefusals
+mod RowWitness
+mod RowPruned
+pub mod Inversion
+pub mod Typings
+pub mod Below
+mod RowTypings
+mod Sharing
+mod RowAccepted
+pub mod Values
+pub mod Meaning
+pub mod Unfold
+pub mod Trees
+pub mod Bits
+pub mod Spell
+mod More

@@ -1,7 +1,7 @@
 -- Naturals: how many turns suffice doesn't matter, so the code of 2 ^ n + m is 1, the code of n, and m in n bits.
-use Rattle.std.proofs.Common.{◌≡◌, refl, ap, ◌∙◌, ℕ, zero, suc, ◌-◌, ◌*◌, ◌/◌, ◌^◌, ◌<◌, ◌≤◌, Bool, true, false, List, [], ◌∷◌, ◌++◌, arith}
+use Rattle.std.proofs.Common.{◌≡◌, refl, ap, sym, subst, ◌∙◌, ℕ, zero, suc, ◌+◌, ◌-◌, ◌*◌, ◌/◌, ◌^◌, ◌<◌, ◌≤◌, Bool, true, false, List, [], ◌∷◌, ◌++◌, arith}
 use Rattle.std.proofs.Math.Nat.{pow-suc}
-use Rattle.simplicity.specs.Spelling.{number_bits, log2, log2_next, log2_within, natural, natural_next, natural_within}
+use Rattle.simplicity.specs.Spelling.{number_bits, log2, log2_next, log2_within, natural, natural_next, natural_within, IsNatural, NaturalOne, NaturalPower}
 
 -- one turn keeps the logarithm below its number, where the turns before do
 log2_next_below : (f : ℕ → ℕ) (x half : ℕ) → 0 < x → x / 2 ≡ half → (0 < half → f half < half) → log2_next f half < x
@@ -68,3 +68,54 @@ natural_from (suc turns) x n few h low high =
 -- the code of 2 ^ n + m is 1, the code of n, and m in n bits
 pub natural_step : (x n : ℕ) → 0 < n → 2 ^ n ≤ x → x < 2 * 2 ^ n → natural x ≡ true ∷ (natural n ++ number_bits n (x - 2 ^ n))
 natural_step x n h low high = natural_from x x n (omega arith) h low high
+
+-- the logarithm's powers enclose the number
+log2_next_bounds : (f : ℕ → ℕ) (x half : ℕ) → 0 < x → x / 2 ≡ half → (0 < half → (2 ^ f half ≤ half) × (half < 2 * 2 ^ f half)) →
+    (2 ^ log2_next f half ≤ x) × (x < 2 * 2 ^ log2_next f half)
+log2_next_bounds f x zero h e within = (omega arith, omega arith)
+log2_next_bounds f x (suc half) h e within =
+    let rest = within (omega arith) in
+    let double : 2 ^ suc (f (suc half)) ≡ 2 ^ f (suc half) * 2 = pow-suc 2 (f (suc half)) in
+    (omega (arith, rest.0, double), omega (arith, rest.1, double))
+
+log2_bounds_within : (turns x : ℕ) → 0 < x → x ≤ turns → (2 ^ log2_within turns x ≤ x) × (x < 2 * 2 ^ log2_within turns x)
+log2_bounds_within zero x h few = absurd (omega arith)
+log2_bounds_within (suc turns) x h few =
+    log2_next_bounds (log2_within turns) x (x / 2) h refl (λ positive. log2_bounds_within turns (x / 2) positive (omega arith))
+
+pub log2_bounds : (x : ℕ) → 0 < x → (2 ^ log2 x ≤ x) × (x < 2 * 2 ^ log2 x)
+log2_bounds x h = log2_bounds_within x x h (omega arith)
+
+-- the function gives what the relation says
+power_of : (x n : ℕ) → 0 < n → 2 ^ n ≤ x → x < 2 * 2 ^ n → IsNatural n (natural n) → IsNatural x (natural x)
+power_of x n h low high rest = NaturalPower x n (x - 2 ^ n) (natural n) (natural x) h (omega arith) (omega arith) rest (natural_step x n h low high)
+
+holds_next : (x n : ℕ) → 0 < x → log2 x ≡ n → (0 < n → IsNatural n (natural n)) → IsNatural x (natural x)
+holds_next x zero h e rest =
+    let bounds = log2_bounds x h in
+    let power : 2 ^ log2 x ≡ 1 = rw e refl in
+    let one : 1 ≡ x = omega (arith, bounds.1, power) in
+    subst (λ (k : ℕ). IsNatural k (natural k)) one NaturalOne
+holds_next x (suc n) h e rest =
+    let bounds = log2_bounds x h in
+    let low : 2 ^ suc n ≤ x = subst (λ (k : ℕ). 2 ^ k ≤ x) e bounds.0 in
+    let high : x < 2 * 2 ^ suc n = subst (λ (k : ℕ). x < 2 * 2 ^ k) e bounds.1 in
+    power_of x (suc n) (omega arith) low high (rest (omega arith))
+
+natural_holds_below : (turns x : ℕ) → 0 < x → x < turns → IsNatural x (natural x)
+natural_holds_below zero x h few = absurd (omega arith)
+natural_holds_below (suc turns) x h few =
+    let less : log2 x < x = log2_below x x h in
+    holds_next x (log2 x) h refl (λ positive. natural_holds_below turns (log2 x) positive (omega arith))
+
+pub natural_holds : (x : ℕ) → 0 < x → IsNatural x (natural x)
+natural_holds x h = natural_holds_below (suc x) x h (omega arith)
+
+pub natural_only : (x : ℕ) (bits : List Bool) → IsNatural x bits → bits ≡ natural x
+natural_only _ _ NaturalOne = refl
+natural_only _ _ (NaturalPower x n m code bits h below is rest made) =
+    let same : code ≡ natural n = natural_only n code rest in
+    let left : x - 2 ^ n ≡ m = omega arith in
+    let double : 2 * 2 ^ n ≡ 2 ^ n + 2 ^ n = omega arith in
+    let step = natural_step x n h (omega arith) (omega arith) in
+    made ∙ ap (λ c. true ∷ (c ++ number_bits n m)) same ∙ ap (λ k. true ∷ (natural n ++ number_bits n k)) (sym left) ∙ sym step

@@ -1,5 +1,17 @@
 pub mod Types
+pub mod Cells
 pub mod Terms
 pub mod Nodes
+pub mod Carried
 pub mod Order
+pub mod Typing
+pub mod Shared
 pub mod Spelling
+pub mod Accepted
+pub mod Roots
+pub mod Machine
+pub mod Visits
+pub mod Pruning
+pub mod Canon
+pub mod Bounds
+pub mod Laws

@@ -1,6 +1,6 @@
 -- Node lists: nodes that name their children by index, and the tree that a list unfolds to
 -- (after the Simplicity Technical Report, "Serialization"; that witness nodes are numbered in list order is this project's own).
-use Rattle.std.specs.Prelude.{ℕ, ◌+◌, ◌-◌, ◌<◌, List, [], ◌∷◌, ◌++◌, length, Option, Some, None, slice_get, unwrap_or}
+use Rattle.std.specs.Prelude.{◌≡◌, ℕ, suc, ◌+◌, ◌-◌, ◌<◌, List, [], ◌∷◌, ◌++◌, length, Option, Some, None, slice_get, unwrap_or}
 use Rattle.simplicity.specs.Terms as term
 use Rattle.simplicity.specs.Terms.{Term}
 
@@ -132,3 +132,27 @@ tree_of_node ns i = tree_at (parts ns) i
 
 abbrev pub tree_of : List Node → Term
 tree_of ns = tree_of_node ns (length ns - 1)
+
+-- the number of witness nodes among the first nodes of a list, so the number of the one that stands there
+abbrev pub witness_number : List Node → ℕ → ℕ
+witness_number (n ∷ ns) (suc i) = count_after n (witness_number ns i)
+witness_number _ _ = 0
+
+-- what the nodes of a list unfold to, by cases: each shown node with its tree
+pub data Unfolds (ns : List Node) : ℕ → Term → Type 0 where
+  UnfoldIden : (i : ℕ) → slice_get ns i ≡ Some Iden → Unfolds ns i term.Iden
+  UnfoldUnit : (i : ℕ) → slice_get ns i ≡ Some UnitNode → Unfolds ns i term.UnitTerm
+  UnfoldInjl : (i j : ℕ) (t : Term) → slice_get ns i ≡ Some (Injl j) → Unfolds ns j t → Unfolds ns i (term.Injl t)
+  UnfoldInjr : (i j : ℕ) (t : Term) → slice_get ns i ≡ Some (Injr j) → Unfolds ns j t → Unfolds ns i (term.Injr t)
+  UnfoldTake : (i j : ℕ) (t : Term) → slice_get ns i ≡ Some (Take j) → Unfolds ns j t → Unfolds ns i (term.Take t)
+  UnfoldDrop : (i j : ℕ) (t : Term) → slice_get ns i ≡ Some (Drop j) → Unfolds ns j t → Unfolds ns i (term.Drop t)
+  UnfoldComp : (i j k : ℕ) (s t : Term) → slice_get ns i ≡ Some (Comp j k) → Unfolds ns j s → Unfolds ns k t → Unfolds ns i (term.Comp s t)
+  UnfoldCase : (i j k : ℕ) (s t : Term) → slice_get ns i ≡ Some (Case j k) → Unfolds ns j s → Unfolds ns k t → Unfolds ns i (term.Case s t)
+  UnfoldAssertL : (i j k : ℕ) (s : Term) (h : List ℕ) → slice_get ns i ≡ Some (Case j k) → Unfolds ns j s → slice_get ns k ≡ Some (Hidden h) →
+      Unfolds ns i (term.AssertL s h)
+  UnfoldAssertR : (i j k : ℕ) (h : List ℕ) (t : Term) → slice_get ns i ≡ Some (Case j k) → slice_get ns j ≡ Some (Hidden h) → Unfolds ns k t →
+      Unfolds ns i (term.AssertR h t)
+  UnfoldPair : (i j k : ℕ) (s t : Term) → slice_get ns i ≡ Some (Pair j k) → Unfolds ns j s → Unfolds ns k t → Unfolds ns i (term.PairTerm s t)
+  UnfoldFail : (i : ℕ) (e : List ℕ) → slice_get ns i ≡ Some (Fail e) → Unfolds ns i (term.Fail e)
+  UnfoldWitness : (i : ℕ) → slice_get ns i ≡ Some Witness → Unfolds ns i (term.Witness (witness_number ns i))
+  UnfoldWord : (i k n : ℕ) → slice_get ns i ≡ Some (Word k n) → Unfolds ns i (term.Word k n)

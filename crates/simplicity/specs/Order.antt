@@ -38,3 +38,11 @@ post_order ns = ended ns (length ns) (length ns - 1) []
 -- every node is reached, and stands in its place
 abbrev pub IsOrdered : List Node → Type 0
 IsOrdered ns = post_order ns ≡ range_with_len 0 (length ns)
+
+-- a node is reached from the root
+abbrev pub IsReached : List Node → ℕ → Type 0
+IsReached ns i = has i (post_order ns) ≡ true
+
+-- a node is in its place: it is reached, and exactly so many nodes end before it as its index says
+abbrev pub IsInPlace : List Node → ℕ → Type 0
+IsInPlace ns i = slice_get (post_order ns) i ≡ Some i

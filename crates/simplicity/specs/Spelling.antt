@@ -1,6 +1,6 @@
 -- The bits of a program (Simplicity Technical Report, "Serialization"; the padding is this project's own).
 use Rattle.std.specs.Prelude.{◌≡◌, ℕ, zero, suc, ◌+◌, ◌-◌, ◌/◌, ◌^◌, ◌<◌, Bool, true, false, List, [], ◌∷◌, ◌++◌, length, replicate}
-use Rattle.simplicity.specs.Types.{is_odd}
+use Rattle.simplicity.specs.Types.{Kind, Value, AreOf, code, is_odd}
 use Rattle.simplicity.specs.Nodes.{Node, IsPlaced, HasRoot}
 use Rattle.simplicity.specs.Nodes as node
 
@@ -32,6 +32,12 @@ natural_within (suc turns) x = natural_next (natural_within turns) x (log2 x)
 
 abbrev pub natural : ℕ → List Bool
 natural x = natural_within x x
+
+-- the same code, as a relation by cases
+pub data IsNatural : ℕ → List Bool → Type 0 where
+  NaturalOne : IsNatural 1 (false ∷ [])
+  NaturalPower : (x n m : ℕ) (code_of_n bits : List Bool) → 0 < n → m < 2 ^ n → x ≡ 2 ^ n + m → IsNatural n code_of_n →
+      bits ≡ true ∷ (code_of_n ++ number_bits n m) → IsNatural x bits
 
 -- the bits of bytes
 abbrev pub byte_bits : List ℕ → List Bool
@@ -74,3 +80,13 @@ pub record Spelled (bytes : List ℕ) (ns : List Node) : Type 0 where
   pub placed : IsPlaced ns
   pub rooted : HasRoot ns
   pub padded : IsPadded bytes (program_bits ns)
+
+-- the compact codes of values, one after the other
+abbrev pub codes_of : List Value → List Bool
+codes_of [] = []
+codes_of (v ∷ vs) = code v ++ codes_of vs
+
+-- the bytes are the stream of these values, each of the type at its place
+pub record IsStream (bytes : List ℕ) (types : List Kind) (values : List Value) : Type 0 where
+  pub typed : AreOf values types
+  pub padded : IsPadded bytes (codes_of values)

@@ -1,0 +1,5 @@
+use Rattle.simplicity.proofs.Below.{below_self, below_through, below_both}
+use Rattle.simplicity.proofs.below_orders_law.Goals as goal
+
+pub returns : goal.returns
+returns c = record { reflexive = below_self; transitive = below_through; antisymmetric = below_both }

@@ -1,0 +1,5 @@
+use Rattle.simplicity.proofs.Below.{least_one}
+use Rattle.simplicity.proofs.least_is_one_law.Goals as goal
+
+pub returns : goal.returns
+returns c = least_one

@@ -1,0 +1,5 @@
+use Rattle.simplicity.proofs.Trees.{nodes_unfold}
+use Rattle.simplicity.proofs.nodes_unfold_law.Goals as goal
+
+pub returns : goal.returns
+returns c = nodes_unfold

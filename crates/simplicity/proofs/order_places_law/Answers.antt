@@ -1,0 +1,5 @@
+use Rattle.simplicity.proofs.More.{order_places}
+use Rattle.simplicity.proofs.order_places_law.Goals as goal
+
+pub returns : goal.returns
+returns c = order_places

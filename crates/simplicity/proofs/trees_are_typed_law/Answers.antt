@@ -1,0 +1,5 @@
+use Rattle.simplicity.proofs.Trees.{trees_are_typed}
+use Rattle.simplicity.proofs.trees_are_typed_law.Goals as goal
+
+pub returns : goal.returns
+returns c = trees_are_typed

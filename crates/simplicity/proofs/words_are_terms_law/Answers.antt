@@ -1,0 +1,5 @@
+use Rattle.simplicity.proofs.More.{words_are_terms}
+use Rattle.simplicity.proofs.words_are_terms_law.Goals as goal
+
+pub returns : goal.returns
+returns c = words_are_terms
