@@ -1,12 +1,11 @@
 -- Where a placed list's children stand, and the bits of one node more.
 use Rattle.std.proofs.Common.{◌≡◌, ℕ, zero, suc, ◌+◌, ◌<◌, List, [], ◌∷◌, ◌++◌, length, take, get_or, map, Bool, Some, None, slice_get, refl, sym, ap, ◌∙◌, arith, append_assoc, append-nil, length-append, add-one, length-take, Option, IsSome}
 use Rattle.simplicity.specs.Nodes as node
-use Rattle.simplicity.specs.Nodes.{Node, CanFollow, PlacedAfter, IsPlaced, IsShown, AreCaseSides}
+use Rattle.simplicity.specs.Nodes.{Node, CanFollow, PlacedAfter, IsPlaced, IsShown, AreCaseSides, AreUnder, children}
 use Rattle.simplicity.specs.Spelling.{node_bits, nodes_bits}
 use Rattle.term_core.specs.Nodes.{node_of, nodes_of}
 use Rattle.term_core.specs.declared.node.ListNode.{ListNode}
 use Rattle.term_core.specs.declared.node.ListNode.TheVariants as code
-use Rattle.bit_codec.specs.Children.{AreBefore}
 
 shown_within : (ns : List Node) (i : ℕ) → IsShown (slice_get ns i) → i < length ns
 shown_within [] i shown = absurd shown
@@ -24,7 +23,7 @@ sides_there (Some s) (Some t) h = (refl, refl)
 sides_there (Some s) None h = absurd h
 
 -- a node's children stand among those that it follows
-follows_children : (ns : List Node) (n : Node) → CanFollow ns n → AreBefore (length ns) n
+follows_children : (ns : List Node) (n : Node) → CanFollow ns n → AreUnder (length ns) (children n)
 follows_children ns (node.Injl i) h = (shown_within ns i h, tt)
 follows_children ns (node.Injr i) h = (shown_within ns i h, tt)
 follows_children ns (node.Take i) h = (shown_within ns i h, tt)
@@ -41,7 +40,7 @@ follows_children ns (node.Fail b) h = tt
 follows_children ns node.Witness h = tt
 follows_children ns (node.Word k n) h = tt
 
-children_after : (before : List Node) (raw : List ListNode) (i : ℕ) → PlacedAfter before (nodes_of raw) → i < length raw → AreBefore (length before + i) (node_of (get_or raw i code.Iden))
+children_after : (before : List Node) (raw : List ListNode) (i : ℕ) → PlacedAfter before (nodes_of raw) → i < length raw → AreUnder (length before + i) (children (node_of (get_or raw i code.Iden)))
 children_after before [] i placed within = absurd (omega arith)
 children_after before (m ∷ raw) zero placed within = let e : length before + 0 ≡ length before = omega arith in rw e (follows_children before (node_of m) placed.0)
 children_after before (m ∷ raw) (suc i) placed within =
@@ -49,7 +48,7 @@ children_after before (m ∷ raw) (suc i) placed within =
     rw e at (children_after (before ++ node_of m ∷ []) raw i placed.1 (omega arith))
 
 -- in a placed list the children of the node at a place stand before it
-pub children_placed : (raw : List ListNode) (ns : List Node) (i : ℕ) → nodes_of raw ≡ ns → IsPlaced ns → i < length raw → AreBefore i (node_of (get_or raw i code.Iden))
+pub children_placed : (raw : List ListNode) (ns : List Node) (i : ℕ) → nodes_of raw ≡ ns → IsPlaced ns → i < length raw → AreUnder i (children (node_of (get_or raw i code.Iden)))
 children_placed raw ns i is placed within =
     let e : 0 + i ≡ i = omega arith in
     rw e at (children_after [] raw i (rw is placed) within)

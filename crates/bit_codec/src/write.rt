@@ -1,10 +1,9 @@
 //! From a list of nodes to its bytes.
 
 ghost use Rattle.std.specs.Prelude.{◌≡◌, ◌<◌, ◌-◌, ◌^◌, ◌++◌, length, IfOk, OnOk};
-ghost use Rattle.simplicity.specs.Nodes.{CanFollow, HasRoot};
+ghost use Rattle.simplicity.specs.Nodes.{AreUnder, HasRoot, children};
 ghost use Rattle.simplicity.specs.Spelling.{node_bits, natural, Spelled};
 ghost use Rattle.term_core.specs.Nodes.{node_of};
-ghost use Rattle.bit_codec.specs.Children.{AreBefore};
 
 use cell_bits::BitWriter;
 use std::alloc::{AllocError, Global};
@@ -27,7 +26,7 @@ pub fn write_program(alloc: Global, nodes: &NodeList) -> Result<Vec<u8>, AllocEr
 /// Appends the bits of a node that stands at an index.
 fn write_node(writer: &mut BitWriter, index: usize, node: ListNode) -> Result<(), AllocError>
     requires few { index < 2 ^ 32 }
-    requires children { AreBefore index (node_of node) }
+    requires children { AreUnder index (children (node_of node)) }
     ensures { OnOk result (writer.new ≡ writer.old ++ node_bits index (node_of node)) }
 {
     match node {

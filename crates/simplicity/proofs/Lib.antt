@@ -1,4 +1,5 @@
 pub mod Naturals
+pub mod Carries
 mod Rows
 mod RowBits
 mod RowRuns

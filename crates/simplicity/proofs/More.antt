@@ -12,7 +12,7 @@ use Rattle.simplicity.proofs.Spell.{one_list, one_stream}
 
 pub accepted_as_one : AcceptedAsOne
 accepted_as_one = record {
-  list = λ program stream r ns ms ts us v w c d a b. one_list program ns ms c d a.spelled b.spelled;
+  list = λ program stream r ns ms ts us v w a b. one_list program ns ms a.spelled b.spelled;
   typing = λ program stream r ns ts us v w a b. least_one ns r ts us a.canonical.least b.canonical.least;
   witness = λ program stream r ns ts v w a b. one_stream stream (Rattle.simplicity.specs.Typing.witness_targets ns ts) v w a.values b.values;
 }

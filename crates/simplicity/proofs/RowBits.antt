@@ -1,5 +1,7 @@
 -- The worked programs spelled, ordered and unfolded, checked by computing.
-use Rattle.std.proofs.Common.{◌≡◌, refl, ℕ, ◌<◌, List, [], ◌∷◌, ◌++◌, replicate, false, arith}
+use Rattle.std.proofs.Common.{◌≡◌, refl, ℕ, ◌<◌, List, [], ◌∷◌, ◌++◌, replicate, true, false, arith}
+use Rattle.std.specs.List.{list_all}
+use Rattle.simplicity.proofs.Carries.{carries, carried_by}
 use Rattle.simplicity.specs.Types.{UnitValue, Inl, Inr, Pair, One, Sum, Product, word_kind, word_value, shrink}
 use Rattle.simplicity.specs.Nodes.{Node, tree_of, IsPlaced, HasRoot}
 use Rattle.simplicity.specs.Terms as term
@@ -9,35 +11,35 @@ use Rattle.simplicity.proofs.Rows.{empty_nodes, empty_bytes, same_nodes, same_by
 
 -- bytes that hold a list's bits and so many zeros spell it
 pub spells : (bytes : List ℕ) (ns : List Node) (zeros : ℕ) → IsPlaced ns → HasRoot ns → zeros < 8 →
-    byte_bits bytes ≡ program_bits ns ++ replicate zeros false → Spelled bytes ns
-spells bytes ns zeros placed rooted few same = record { placed = placed; rooted = rooted; padded = record { zeros = zeros; few = few; same = same } }
+    byte_bits bytes ≡ program_bits ns ++ replicate zeros false → list_all carries ns ≡ true → Spelled bytes ns
+spells bytes ns zeros placed rooted few same fits = record { placed = placed; rooted = rooted; carried = carried_by ns fits; padded = record { zeros = zeros; few = few; same = same } }
 
 pub empty_spelled : Spelled empty_bytes empty_nodes
-empty_spelled = spells empty_bytes empty_nodes 2 (tt, tt) (tt, omega arith) (omega arith) refl
+empty_spelled = spells empty_bytes empty_nodes 2 (tt, tt) (tt, omega arith) (omega arith) refl refl
 
 pub same_spelled : Spelled same_bytes same_nodes
-same_spelled = spells same_bytes same_nodes 2 (tt, tt) (tt, omega arith) (omega arith) refl
+same_spelled = spells same_bytes same_nodes 2 (tt, tt) (tt, omega arith) (omega arith) refl refl
 
 pub second_spelled : Spelled second_bytes second_nodes
-second_spelled = spells second_bytes second_nodes 2 (tt, (tt, tt)) (tt, omega arith) (omega arith) refl
+second_spelled = spells second_bytes second_nodes 2 (tt, (tt, tt)) (tt, omega arith) (omega arith) refl refl
 
 pub swap_spelled : Spelled swap_bytes swap_nodes
-swap_spelled = spells swap_bytes swap_nodes 6 (tt, (tt, (tt, ((tt, tt), tt)))) (tt, omega arith) (omega arith) refl
+swap_spelled = spells swap_bytes swap_nodes 6 (tt, (tt, (tt, ((tt, tt), tt)))) (tt, omega arith) (omega arith) refl refl
 
 pub five_spelled : Spelled five_bytes five_nodes
-five_spelled = spells five_bytes five_nodes 7 (tt, (tt, ((tt, tt), tt))) (tt, omega arith) (omega arith) refl
+five_spelled = spells five_bytes five_nodes 7 (tt, (tt, ((tt, tt), tt))) (tt, omega arith) (omega arith) refl refl
 
 pub assert_spelled : Spelled assert_bytes assert_nodes
 assert_spelled =
     spells assert_bytes assert_nodes 7
     (tt, (tt, ((tt, tt), (tt, (tt, (tt, ((tt, tt), ((tt, tt), (tt, (tt, ((tt, tt), tt)))))))))))
-    (tt, omega arith) (omega arith) refl
+    (tt, omega arith) (omega arith) refl refl
 
 pub endless_spelled : Spelled endless_bytes endless_nodes
-endless_spelled = spells endless_bytes endless_nodes 1 (tt, (tt, ((tt, tt), tt))) (tt, omega arith) (omega arith) refl
+endless_spelled = spells endless_bytes endless_nodes 1 (tt, (tt, ((tt, tt), tt))) (tt, omega arith) (omega arith) refl refl
 
 pub loose_spelled : Spelled loose_bytes loose_nodes
-loose_spelled = spells loose_bytes loose_nodes 3 (tt, (tt, tt)) (tt, omega arith) (omega arith) refl
+loose_spelled = spells loose_bytes loose_nodes 3 (tt, (tt, tt)) (tt, omega arith) (omega arith) refl refl
 
 -- each in its order, but the list whose first node isn't reached
 pub empty_ordered : IsOrdered empty_nodes

@@ -54,7 +54,7 @@ abbrev pair_witness_bytes : List ℕ
 pair_witness_bytes = 228 ∷ 203 ∷ 160 ∷ 80 ∷ 131 ∷ 16 ∷ 40 ∷ 65 ∷ 134 ∷ 38 ∷ 192 ∷ 28 ∷ 16 ∷ 44 ∷ 8 ∷ 48 ∷ 195 ∷ 193 ∷ 66 ∷ 12 ∷ 48 ∷ 240 ∷ 80 ∷ 131 ∷ 12 ∷ 60 ∷ 20 ∷ 36 ∷ 89 ∷ 18 ∷ 81 ∷ 32 ∷ 96 ∷ 24 ∷ 142 ∷ 62 ∷ 208 ∷ 192 ∷ 53 ∷ 132 ∷ 225 ∷ 73 ∷ 32 ∷ 227 ∷ 240 ∷ 67 ∷ 15 ∷ 5 ∷ 0 ∷ 106 ∷ 56 ∷ 57 ∷ 129 ∷ 172 ∷ 14 ∷ 26 ∷ 19 ∷ 139 ∷ 146 ∷ 65 ∷ 199 ∷ 226 ∷ 99 ∷ 15 ∷ 5 ∷ 0 ∷ 106 ∷ 56 ∷ 57 ∷ 129 ∷ 172 ∷ 14 ∷ 47 ∷ 32 ∷ 80 ∷ 146 ∷ 14 ∷ 63 ∷ 28 ∷ 152 ∷ 120 ∷ 40 ∷ 3 ∷ 89 ∷ 193 ∷ 204 ∷ 13 ∷ 96 ∷ 114 ∷ 8 ∷ 39 ∷ 33 ∷ 152 ∷ 189 ∷ 197 ∷ 162 ∷ 182 ∷ 75 ∷ 73 ∷ 185 ∷ 232 ∷ 48 ∷ 126 ∷ 214 ∷ 199 ∷ 27 ∷ 224 ∷ 25 ∷ 71 ∷ 36 ∷ 37 ∷ 82 ∷ 39 ∷ 174 ∷ 162 ∷ 195 ∷ 7 ∷ 30 ∷ 10 ∷ 64 ∷ 18 ∷ 54 ∷ 211 ∷ 130 ∷ 124 ∷ 46 ∷ 51 ∷ 5 ∷ 9 ∷ 200 ∷ 163 ∷ 242 ∷ 80 ∷ 16 ∷ 14 ∷ 72 ∷ 129 ∷ 201 ∷ 96 ∷ []
 
 pair_witness_spelled : Spelled pair_witness_bytes pair_witness_nodes
-pair_witness_spelled = spells pair_witness_bytes pair_witness_nodes 3 (tt, (tt, ((tt, tt), (tt, (tt, (tt, ((tt, tt), (tt, (tt, (tt, (tt, (tt, ((tt, tt), ((tt, tt), (tt, (tt, (tt, (tt, ((tt, tt), (tt, (tt, (tt, (tt, ((tt, tt), (tt, (tt, (tt, (tt, ((tt, tt), (tt, ((tt, tt), (tt, (tt, (tt, (tt, ((tt, tt), (tt, (tt, (tt, ((tt, tt), ((tt, tt), (tt, (tt, (tt, (tt, (tt, (tt, ((tt, tt), ((tt, tt), (tt, (tt, ((tt, tt), ((tt, tt), ((tt, tt), (tt, (tt, (tt, (tt, (tt, (tt, ((tt, tt), ((tt, tt), (tt, (tt, ((tt, tt), ((tt, tt), (tt, ((tt, tt), (tt, (tt, (tt, (tt, (tt, (tt, ((tt, tt), ((tt, tt), (tt, (tt, ((tt, tt), ((tt, tt), ((tt, tt), (tt, (tt, ((tt, tt), ((tt, tt), (tt, ((tt, tt), ((tt, tt), ((tt, tt), tt))))))))))))))))))))))))))))))))))))))))))))))))))))))))))))))))))))))))))))))))))))))))) (tt, omega arith) (omega arith) refl
+pair_witness_spelled = spells pair_witness_bytes pair_witness_nodes 3 (tt, (tt, ((tt, tt), (tt, (tt, (tt, ((tt, tt), (tt, (tt, (tt, (tt, (tt, ((tt, tt), ((tt, tt), (tt, (tt, (tt, (tt, ((tt, tt), (tt, (tt, (tt, (tt, ((tt, tt), (tt, (tt, (tt, (tt, ((tt, tt), (tt, ((tt, tt), (tt, (tt, (tt, (tt, ((tt, tt), (tt, (tt, (tt, ((tt, tt), ((tt, tt), (tt, (tt, (tt, (tt, (tt, (tt, ((tt, tt), ((tt, tt), (tt, (tt, ((tt, tt), ((tt, tt), ((tt, tt), (tt, (tt, (tt, (tt, (tt, (tt, ((tt, tt), ((tt, tt), (tt, (tt, ((tt, tt), ((tt, tt), (tt, ((tt, tt), (tt, (tt, (tt, (tt, (tt, (tt, ((tt, tt), ((tt, tt), (tt, (tt, ((tt, tt), ((tt, tt), ((tt, tt), (tt, (tt, ((tt, tt), ((tt, tt), (tt, ((tt, tt), ((tt, tt), ((tt, tt), tt))))))))))))))))))))))))))))))))))))))))))))))))))))))))))))))))))))))))))))))))))))))))) (tt, omega arith) (omega arith) refl refl
 
 pair_witness_ordered : IsOrdered pair_witness_nodes
 pair_witness_ordered = refl
@@ -79,7 +79,7 @@ abbrev either_witness_bytes : List ℕ
 either_witness_bytes = 228 ∷ 27 ∷ 160 ∷ 80 ∷ 131 ∷ 16 ∷ 98 ∷ 5 ∷ 7 ∷ 192 ∷ 228 ∷ 148 ∷ 112 ∷ 112 ∷ 3 ∷ 49 ∷ 136 ∷ 20 ∷ 31 ∷ 3 ∷ 146 ∷ 81 ∷ 193 ∷ 192 ∷ 12 ∷ 198 ∷ 9 ∷ 194 ∷ 15 ∷ 78 ∷ 73 ∷ 71 ∷ 7 ∷ 0 ∷ 51 ∷ 36 ∷ 92 ∷ 60 ∷ 146 ∷ 137 ∷ 3 ∷ 0 ∷ 196 ∷ 13 ∷ 0 ∷ 113 ∷ 57 ∷ 34 ∷ 134 ∷ 47 ∷ 113 ∷ 104 ∷ 173 ∷ 146 ∷ 210 ∷ 110 ∷ 122 ∷ 12 ∷ 31 ∷ 181 ∷ 177 ∷ 198 ∷ 248 ∷ 6 ∷ 81 ∷ 201 ∷ 9 ∷ 84 ∷ 137 ∷ 235 ∷ 168 ∷ 176 ∷ 193 ∷ 199 ∷ 130 ∷ 144 ∷ 4 ∷ 141 ∷ 180 ∷ 224 ∷ 159 ∷ 11 ∷ 80 ∷ 41 ∷ 6 ∷ 27 ∷ 128 ∷ 137 ∷ 79 ∷ 192 ∷ 206 ∷ 73 ∷ 71 ∷ 7 ∷ 0 ∷ 51 ∷ 1 ∷ 192 ∷ 193 ∷ 172 ∷ 145 ∷ 64 ∷ 28 ∷ 4 ∷ 60 ∷ 4 ∷ 14 ∷ 64 ∷ 0 ∷ []
 
 either_witness_spelled : Spelled either_witness_bytes either_witness_nodes
-either_witness_spelled = spells either_witness_bytes either_witness_nodes 6 (tt, (tt, ((tt, tt), (tt, (tt, (tt, (tt, (tt, ((tt, tt), (tt, (tt, (tt, (tt, (tt, (tt, ((tt, tt), (tt, (tt, ((tt, tt), (tt, (tt, (tt, (tt, (tt, (tt, ((tt, tt), (tt, ((tt, tt), (tt, (tt, (tt, (tt, (tt, (tt, ((tt, tt), (tt, ((tt, tt), (tt, (tt, (tt, (tt, ((tt, tt), ((tt, tt), ((tt, tt), (tt, ((tt, tt), (tt, (tt, ((tt, tt), (tt, (tt, (tt, ((tt, tt), (tt, (tt, (tt, (tt, (tt, (tt, ((tt, tt), ((tt, tt), ((tt, tt), (tt, ((tt, tt), ((tt, tt), (tt, ((tt, tt), tt))))))))))))))))))))))))))))))))))))))))))))))))))))))))))))))))))) (tt, omega arith) (omega arith) refl
+either_witness_spelled = spells either_witness_bytes either_witness_nodes 6 (tt, (tt, ((tt, tt), (tt, (tt, (tt, (tt, (tt, ((tt, tt), (tt, (tt, (tt, (tt, (tt, (tt, ((tt, tt), (tt, (tt, ((tt, tt), (tt, (tt, (tt, (tt, (tt, (tt, ((tt, tt), (tt, ((tt, tt), (tt, (tt, (tt, (tt, (tt, (tt, ((tt, tt), (tt, ((tt, tt), (tt, (tt, (tt, (tt, ((tt, tt), ((tt, tt), ((tt, tt), (tt, ((tt, tt), (tt, (tt, ((tt, tt), (tt, (tt, (tt, ((tt, tt), (tt, (tt, (tt, (tt, (tt, (tt, ((tt, tt), ((tt, tt), ((tt, tt), (tt, ((tt, tt), ((tt, tt), (tt, ((tt, tt), tt))))))))))))))))))))))))))))))))))))))))))))))))))))))))))))))))))) (tt, omega arith) (omega arith) refl refl
 
 either_witness_ordered : IsOrdered either_witness_nodes
 either_witness_ordered = refl
@@ -107,7 +107,7 @@ abbrev left_pruned_bytes : List ℕ
 left_pruned_bytes = 226 ∷ 199 ∷ 64 ∷ 161 ∷ 6 ∷ 32 ∷ 196 ∷ 10 ∷ 15 ∷ 129 ∷ 205 ∷ 155 ∷ 6 ∷ 6 ∷ 122 ∷ 5 ∷ 80 ∷ 7 ∷ 200 ∷ 195 ∷ 141 ∷ 117 ∷ 208 ∷ 204 ∷ 113 ∷ 131 ∷ 186 ∷ 94 ∷ 37 ∷ 220 ∷ 141 ∷ 38 ∷ 107 ∷ 38 ∷ 254 ∷ 109 ∷ 26 ∷ 211 ∷ 22 ∷ 135 ∷ 98 ∷ 124 ∷ 8 ∷ 24 ∷ 6 ∷ 35 ∷ 16 ∷ 40 ∷ 62 ∷ 7 ∷ 5 ∷ 160 ∷ 24 ∷ 12 ∷ 19 ∷ 129 ∷ 158 ∷ 156 ∷ 22 ∷ 224 ∷ 96 ∷ 72 ∷ 184 ∷ 57 ∷ 37 ∷ 49 ∷ 225 ∷ 251 ∷ 224 ∷ 21 ∷ 109 ∷ 221 ∷ 79 ∷ 32 ∷ 144 ∷ 101 ∷ 246 ∷ 100 ∷ 235 ∷ 218 ∷ 147 ∷ 174 ∷ 80 ∷ 213 ∷ 50 ∷ 170 ∷ 76 ∷ 218 ∷ 146 ∷ 143 ∷ 22 ∷ 51 ∷ 228 ∷ 194 ∷ 38 ∷ 240 ∷ 199 ∷ 16 ∷ 96 ∷ 24 ∷ 129 ∷ 160 ∷ 14 ∷ 30 ∷ 72 ∷ 161 ∷ 139 ∷ 220 ∷ 90 ∷ 43 ∷ 100 ∷ 180 ∷ 155 ∷ 158 ∷ 131 ∷ 7 ∷ 237 ∷ 108 ∷ 113 ∷ 190 ∷ 1 ∷ 148 ∷ 114 ∷ 66 ∷ 85 ∷ 34 ∷ 122 ∷ 234 ∷ 44 ∷ 48 ∷ 113 ∷ 224 ∷ 164 ∷ 1 ∷ 35 ∷ 109 ∷ 56 ∷ 39 ∷ 194 ∷ 212 ∷ 10 ∷ 108 ∷ 63 ∷ 139 ∷ 31 ∷ 31 ∷ 35 ∷ 76 ∷ 228 ∷ 15 ∷ 213 ∷ 27 ∷ 145 ∷ 254 ∷ 189 ∷ 221 ∷ 160 ∷ 119 ∷ 84 ∷ 211 ∷ 135 ∷ 94 ∷ 15 ∷ 58 ∷ 102 ∷ 218 ∷ 25 ∷ 238 ∷ 102 ∷ 166 ∷ 137 ∷ 73 ∷ 170 ∷ 0 ∷ 192 ∷ 56 ∷ 164 ∷ []
 
 left_pruned_spelled : Spelled left_pruned_bytes left_pruned_nodes
-left_pruned_spelled = spells left_pruned_bytes left_pruned_nodes 1 (tt, (tt, ((tt, tt), (tt, (tt, (tt, (tt, (tt, ((tt, tt), (tt, (tt, (tt, (tt, ((tt, tt), (tt, (tt, ((tt, tt), (tt, (tt, (tt, ((tt, tt), (tt, ((tt, tt), (tt, (tt, (tt, ((tt, tt), (tt, ((tt, tt), (tt, (tt, (tt, (tt, ((tt, tt), ((tt, tt), ((tt, tt), (tt, ((tt, tt), (tt, (tt, ((tt, tt), (tt, (tt, ((tt, tt), tt)))))))))))))))))))))))))))))))))))))))))))) (tt, omega arith) (omega arith) refl
+left_pruned_spelled = spells left_pruned_bytes left_pruned_nodes 1 (tt, (tt, ((tt, tt), (tt, (tt, (tt, (tt, (tt, ((tt, tt), (tt, (tt, (tt, (tt, ((tt, tt), (tt, (tt, ((tt, tt), (tt, (tt, (tt, ((tt, tt), (tt, ((tt, tt), (tt, (tt, (tt, ((tt, tt), (tt, ((tt, tt), (tt, (tt, (tt, (tt, ((tt, tt), ((tt, tt), ((tt, tt), (tt, ((tt, tt), (tt, (tt, ((tt, tt), (tt, (tt, ((tt, tt), tt)))))))))))))))))))))))))))))))))))))))))))) (tt, omega arith) (omega arith) refl refl
 
 left_pruned_ordered : IsOrdered left_pruned_nodes
 left_pruned_ordered = refl
@@ -132,7 +132,7 @@ abbrev right_pruned_bytes : List ℕ
 right_pruned_bytes = 227 ∷ 55 ∷ 64 ∷ 161 ∷ 175 ∷ 251 ∷ 22 ∷ 58 ∷ 220 ∷ 123 ∷ 237 ∷ 87 ∷ 104 ∷ 98 ∷ 69 ∷ 208 ∷ 86 ∷ 164 ∷ 103 ∷ 222 ∷ 218 ∷ 186 ∷ 37 ∷ 110 ∷ 107 ∷ 212 ∷ 239 ∷ 247 ∷ 10 ∷ 33 ∷ 239 ∷ 40 ∷ 104 ∷ 145 ∷ 146 ∷ 69 ∷ 80 ∷ 98 ∷ 12 ∷ 64 ∷ 160 ∷ 248 ∷ 28 ∷ 217 ∷ 176 ∷ 96 ∷ 103 ∷ 160 ∷ 85 ∷ 0 ∷ 124 ∷ 140 ∷ 56 ∷ 215 ∷ 93 ∷ 12 ∷ 199 ∷ 24 ∷ 59 ∷ 165 ∷ 226 ∷ 93 ∷ 200 ∷ 210 ∷ 102 ∷ 178 ∷ 111 ∷ 230 ∷ 209 ∷ 173 ∷ 49 ∷ 104 ∷ 118 ∷ 39 ∷ 192 ∷ 129 ∷ 128 ∷ 98 ∷ 49 ∷ 2 ∷ 131 ∷ 224 ∷ 112 ∷ 90 ∷ 1 ∷ 128 ∷ 196 ∷ 10 ∷ 15 ∷ 129 ∷ 193 ∷ 111 ∷ 6 ∷ 3 ∷ 4 ∷ 225 ∷ 71 ∷ 167 ∷ 5 ∷ 193 ∷ 65 ∷ 129 ∷ 34 ∷ 225 ∷ 196 ∷ 148 ∷ 199 ∷ 135 ∷ 239 ∷ 128 ∷ 85 ∷ 183 ∷ 117 ∷ 60 ∷ 130 ∷ 65 ∷ 151 ∷ 217 ∷ 147 ∷ 175 ∷ 106 ∷ 78 ∷ 185 ∷ 67 ∷ 84 ∷ 202 ∷ 169 ∷ 51 ∷ 106 ∷ 74 ∷ 60 ∷ 88 ∷ 207 ∷ 147 ∷ 8 ∷ 155 ∷ 195 ∷ 28 ∷ 65 ∷ 128 ∷ 98 ∷ 6 ∷ 128 ∷ 56 ∷ 152 ∷ 145 ∷ 67 ∷ 23 ∷ 184 ∷ 180 ∷ 86 ∷ 201 ∷ 105 ∷ 55 ∷ 61 ∷ 6 ∷ 15 ∷ 218 ∷ 216 ∷ 227 ∷ 124 ∷ 3 ∷ 40 ∷ 228 ∷ 132 ∷ 170 ∷ 68 ∷ 245 ∷ 212 ∷ 88 ∷ 96 ∷ 227 ∷ 193 ∷ 72 ∷ 2 ∷ 70 ∷ 218 ∷ 112 ∷ 79 ∷ 133 ∷ 168 ∷ 20 ∷ 30 ∷ 46 ∷ 3 ∷ 140 ∷ 0 ∷ []
 
 right_pruned_spelled : Spelled right_pruned_bytes right_pruned_nodes
-right_pruned_spelled = spells right_pruned_bytes right_pruned_nodes 5 (tt, (tt, ((tt, tt), (tt, (tt, (tt, (tt, (tt, (tt, ((tt, tt), (tt, (tt, (tt, (tt, ((tt, tt), (tt, (tt, ((tt, tt), (tt, (tt, (tt, ((tt, tt), (tt, (tt, ((tt, tt), (tt, (tt, (tt, ((tt, tt), (tt, ((tt, tt), (tt, (tt, (tt, ((tt, tt), (tt, ((tt, tt), (tt, (tt, (tt, (tt, ((tt, tt), ((tt, tt), ((tt, tt), (tt, ((tt, tt), (tt, (tt, ((tt, tt), (tt, ((tt, tt), tt))))))))))))))))))))))))))))))))))))))))))))))))))) (tt, omega arith) (omega arith) refl
+right_pruned_spelled = spells right_pruned_bytes right_pruned_nodes 5 (tt, (tt, ((tt, tt), (tt, (tt, (tt, (tt, (tt, (tt, ((tt, tt), (tt, (tt, (tt, (tt, ((tt, tt), (tt, (tt, ((tt, tt), (tt, (tt, (tt, ((tt, tt), (tt, (tt, ((tt, tt), (tt, (tt, (tt, ((tt, tt), (tt, ((tt, tt), (tt, (tt, (tt, ((tt, tt), (tt, ((tt, tt), (tt, (tt, (tt, (tt, ((tt, tt), ((tt, tt), ((tt, tt), (tt, ((tt, tt), (tt, (tt, ((tt, tt), (tt, ((tt, tt), tt))))))))))))))))))))))))))))))))))))))))))))))))))) (tt, omega arith) (omega arith) refl refl
 
 right_pruned_ordered : IsOrdered right_pruned_nodes
 right_pruned_ordered = refl

@@ -4,11 +4,11 @@ use Rattle.std.proofs.lemmas.List.{length-replicate}
 use Rattle.std.proofs.Math.Seq.{take-length}
 use Rattle.simplicity.specs.Types.{Kind, Value, AreOf, code, word_count}
 use Rattle.simplicity.specs.Nodes as node
-use Rattle.simplicity.specs.Nodes.{Node, children, IsPlaced, PlacedAfter, CanFollow, HasRoot}
+use Rattle.simplicity.specs.Nodes.{AreUnder, Node, children, IsPlaced, PlacedAfter, CanFollow, HasRoot}
 use Rattle.simplicity.specs.Carried.{IsCarried, AreCarried, AreBytes, AreBelow256}
 use Rattle.simplicity.specs.Spelling.{number_bits, byte_bits, natural, node_bits, nodes_bits, program_bits, codes_of, IsPadded, Spelled, IsStream}
 use Rattle.simplicity.proofs.Bits.{number_apart, natural_apart, bytes_apart, bytes_length}
-use Rattle.simplicity.proofs.Unfold.{AreUnder, children_under}
+use Rattle.simplicity.proofs.Unfold.{children_under}
 use Rattle.simplicity.proofs.Values.{code_apart}
 
 -- distances, and what follows
@@ -199,9 +199,9 @@ program_apart ns ms us vs h g some some' c d e =
     let count = natural_apart (length ns) (length ms) (nodes_bits 0 ns ++ us) (nodes_bits 0 ms ++ vs) some some' grouped in
     nodes_apart [] 0 ns ms us vs refl count.0 h g c d count.1
 
-pub one_list : (xs : List ℕ) (ns ms : List Node) → AreCarried ns → AreCarried ms → Spelled xs ns → Spelled xs ms → ns ≡ ms
-one_list xs ns ms c d s t =
-    program_apart ns ms (replicate s.padded.zeros false) (replicate t.padded.zeros false) s.placed t.placed s.rooted.1 t.rooted.1 c d
+pub one_list : (xs : List ℕ) (ns ms : List Node) → Spelled xs ns → Spelled xs ms → ns ≡ ms
+one_list xs ns ms s t =
+    program_apart ns ms (replicate s.padded.zeros false) (replicate t.padded.zeros false) s.placed t.placed s.rooted.1 t.rooted.1 s.carried t.carried
     (sym s.padded.same ∙ t.padded.same)
 
 -- the bits of whole bytes, up to fewer than eight zeros, are those of one list of bytes

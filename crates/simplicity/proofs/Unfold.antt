@@ -4,7 +4,7 @@ use Rattle.std.proofs.lemmas.List.{append-nil}
 use Rattle.std.specs.Prelude.{slice_get}
 use Rattle.simplicity.specs.Terms.{Term}
 use Rattle.simplicity.specs.Nodes as node
-use Rattle.simplicity.specs.Nodes.{Node, Part, Tree, HiddenSide, children, IsShown, IsHidden, AreCaseSides, CanFollow, PlacedAfter, IsPlaced, part_at, tree_at, tree_of_part, case_of, part_of, parts_from, parts, count_after, witness_number, tree_of_node, Unfolds}
+use Rattle.simplicity.specs.Nodes.{AreUnder, Node, Part, Tree, HiddenSide, children, IsShown, IsHidden, AreCaseSides, CanFollow, PlacedAfter, IsPlaced, part_at, tree_at, tree_of_part, case_of, part_of, parts_from, parts, count_after, witness_number, tree_of_node, Unfolds}
 
 -- an element of a list stays when the list grows
 pub get_front : {A : Type 0} (xs ys : List A) (i : ℕ) → i < length xs → slice_get (xs ++ ys) i ≡ slice_get xs i
@@ -24,11 +24,6 @@ get_of_take (y ∷ xs) (suc k) zero x h = (h, omega arith)
 get_of_take (y ∷ xs) (suc k) (suc i) x h =
     let rest = get_of_take xs k i x h in
     (rest.0, omega arith)
-
--- each of these is below the number
-abbrev pub AreUnder : ℕ → List ℕ → Type 0
-AreUnder k [] = Unit {0}
-AreUnder k (j ∷ js) = (j < k) × AreUnder k js
 
 -- parts that are there stay
 parts_front : (ps : List Part) (w : ℕ) (ns : List Node) (i : ℕ) → i < length ps → slice_get (parts_from ps w ns) i ≡ slice_get ps i

@@ -9,7 +9,7 @@ use Rattle.simplicity.specs.Nodes.{Node, IsPlaced, IsShown, Unfolds, tree_of_nod
 use Rattle.simplicity.specs.Order.{IsOrdered, IsInPlace}
 use Rattle.simplicity.specs.Accepted.{Accepted}
 use Rattle.simplicity.specs.Roots.{root, word_term}
-use Rattle.simplicity.specs.Carried.{AreCarried, AreBelow256}
+use Rattle.simplicity.specs.Carried.{AreBelow256}
 use Rattle.simplicity.specs.Spelling.{Spelled, IsNatural, IsStream, natural}
 
 -- a value of a type has as many cells as the type's size
@@ -56,7 +56,7 @@ pub record NaturalsAgree : Type 0 where
 -- a list and the bytes that spell it determine each other
 pub record SpellingDetermines : Type 0 where
   pub bytes : (xs ys : List ℕ) (ns : List Node) → AreBelow256 xs → AreBelow256 ys → Spelled xs ns → Spelled ys ns → xs ≡ ys
-  pub list : (xs : List ℕ) (ns ms : List Node) → AreCarried ns → AreCarried ms → Spelled xs ns → Spelled xs ms → ns ≡ ms
+  pub list : (xs : List ℕ) (ns ms : List Node) → Spelled xs ns → Spelled xs ms → ns ≡ ms
 
 -- values of given types and the bytes of their stream determine each other
 pub record StreamDetermines : Type 0 where
@@ -69,7 +69,7 @@ LeastIsOne = (ns : List Node) (root : Arrow) (ts us : Typing) → IsLeast ns roo
 
 -- a program and a stream are accepted at an arrow as at most one list, typing and witness
 pub record AcceptedAsOne : Type 0 where
-  pub list : (program stream : List ℕ) (root : Arrow) (ns ms : List Node) (ts us : Typing) (v w : List Value) → AreCarried ns → AreCarried ms →
+  pub list : (program stream : List ℕ) (root : Arrow) (ns ms : List Node) (ts us : Typing) (v w : List Value) →
       Accepted program stream root ns ts v → Accepted program stream root ms us w → ns ≡ ms
   pub typing : (program stream : List ℕ) (root : Arrow) (ns : List Node) (ts us : Typing) (v w : List Value) →
       Accepted program stream root ns ts v → Accepted program stream root ns us w → ts ≡ us

@@ -31,6 +31,11 @@ children (Case i j) = i ∷ j ∷ []
 children (Pair i j) = i ∷ j ∷ []
 children _ = []
 
+-- the numbers are below one
+abbrev pub AreUnder : ℕ → List ℕ → Type 0
+AreUnder n [] = Unit {0}
+AreUnder n (i ∷ is) = (i < n) × AreUnder n is
+
 -- the node at an index is there and isn't hidden
 abbrev pub IsShown : Option Node → Type 0
 IsShown None = ⊥

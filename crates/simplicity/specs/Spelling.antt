@@ -3,6 +3,7 @@ use Rattle.std.specs.Prelude.{◌≡◌, ℕ, zero, suc, ◌+◌, ◌-◌, ◌/�
 use Rattle.simplicity.specs.Types.{Kind, Value, AreOf, code, is_odd}
 use Rattle.simplicity.specs.Nodes.{Node, IsPlaced, HasRoot}
 use Rattle.simplicity.specs.Nodes as node
+use Rattle.simplicity.specs.Carried.{AreCarried}
 
 -- the last n bits of a number, the most significant first
 abbrev pub number_bits : ℕ → ℕ → List Bool
@@ -79,6 +80,7 @@ pub record IsPadded (bytes : List ℕ) (bits : List Bool) : Type 0 where
 pub record Spelled (bytes : List ℕ) (ns : List Node) : Type 0 where
   pub placed : IsPlaced ns
   pub rooted : HasRoot ns
+  pub carried : AreCarried ns
   pub padded : IsPadded bytes (program_bits ns)
 
 -- the compact codes of values, one after the other

@@ -1,10 +1,10 @@
 -- What adding entries keeps: the old ones in front, children before their parents, the plan's own entry last or nothing new.
 use Rattle.std.proofs.Common.{◌≡◌, ℕ, zero, suc, ◌+◌, ◌<◌, ◌≤◌, List, [], ◌∷◌, ◌++◌, length, slice_get, Some, refl, sym, ap, ◌∙◌, arith, length-append, append_assoc, append-nil, ◌⊎◌, inl, inr, subst}
-use Rattle.simplicity.specs.Nodes.{children}
+use Rattle.simplicity.specs.Nodes.{AreUnder, children}
 use Rattle.term_core.specs.declared.node.ListNode.TheVariants as code
 use Rattle.small_terms.specs.declared.entries.Entry.{Entry}
 use Rattle.small_terms.specs.Emitting.{Adds, found, added, Emits, whole, first, rest, both}
-use Rattle.small_terms.specs.Entries.{AllBelow, AreBelow, entry_node}
+use Rattle.small_terms.specs.Entries.{AreBelow, entry_node}
 use Rattle.small_terms.specs.Plan.{Plan}
 use Rattle.small_terms.proofs.Lists.{get_more, get_next, get_one_more, get_within}
 
@@ -46,11 +46,11 @@ emits_within {old} {new} {plan} {at} (rest p a) = get_within new at _ (adds_ther
 emits_within {old} {new} {plan} {at} (both p q a) = get_within new at _ (adds_there a)
 
 -- an entry whose children are there keeps children before their parents
-pub adds_below : {old new : List Entry} {entry : Entry} {at : ℕ} → AreBelow old → AllBelow (length old) (children (entry_node entry)) → Adds old entry new at → AreBelow new
+pub adds_below : {old new : List Entry} {entry : Entry} {at : ℕ} → AreBelow old → AreUnder (length old) (children (entry_node entry)) → Adds old entry new at → AreBelow new
 adds_below below fits (found there is) = rw is below
 adds_below {old} {new} {entry} {at} below fits (added none here is) = record { below = λ i e there. in_new i e (get_one_more old entry i e (rw is at there)) }
   where
-    in_new : (i : ℕ) (e : Entry) → (slice_get old i ≡ Some e) ⊎ ((i ≡ length old) × (e ≡ entry)) → AllBelow i (children (entry_node e))
+    in_new : (i : ℕ) (e : Entry) → (slice_get old i ≡ Some e) ⊎ ((i ≡ length old) × (e ≡ entry)) → AreUnder i (children (entry_node e))
     in_new i e (inl h) = below.below i e h
     in_new i e (inr h) = rw (h.0, h.1) fits
 

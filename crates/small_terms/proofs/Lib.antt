@@ -7,4 +7,8 @@ mod Found
 mod Emitted
 mod Listed
 mod Planned
+mod ByteKinds
+mod Sized
+mod Typed
+mod Alone
 mod Compiled

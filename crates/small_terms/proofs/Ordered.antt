@@ -1,12 +1,12 @@
 -- Emitting a plan adds its nodes in the order in which a walk from its root ends them.
 use Rattle.std.proofs.Common.{◌≡◌, ℕ, zero, suc, ◌+◌, ◌<◌, ◌≤◌, List, [], ◌∷◌, ◌++◌, length, map, slice_get, Some, refl, sym, ap, ◌∙◌, arith, length-append, append_assoc, ◌⊎◌, inl, inr}
 use Rattle.std.proofs.lemmas.List.{map-append}
-use Rattle.simplicity.specs.Nodes.{Node, children}
+use Rattle.simplicity.specs.Nodes.{AreUnder, Node, children}
 use Rattle.simplicity.specs.Order.{has, over, ended, unless_ended, children_at}
 use Rattle.term_core.specs.declared.node.ListNode.TheVariants as code
 use Rattle.small_terms.specs.declared.entries.Entry.{Entry}
 use Rattle.small_terms.specs.Emitting.{Adds, found, added, Emits, whole, first, rest, both}
-use Rattle.small_terms.specs.Entries.{AllBelow, AreBelow, entry_node, entry_nodes}
+use Rattle.small_terms.specs.Entries.{AreBelow, entry_node, entry_nodes}
 use Rattle.small_terms.specs.Plan.{Plan}
 use Rattle.small_terms.proofs.Lists.{get_more, get_within, upto, upto_next, has_upto, has_upto_past}
 use Rattle.small_terms.proofs.Grown.{IsGrown, grown_same, grown_on, grown_length, adds_there, adds_grown, emits_grown, emits_within, emits_below}
@@ -21,12 +21,12 @@ adds_last (added {old = one} {new = new} {entry = entry} none here is) settled =
     inr (omega (arith, here, ap length is, length-append one (entry ∷ [])))
 
 -- where a node stands whose child was emitted just before, nothing was added for the child
-settled_by : {old one : List Entry} {entry : Entry} {at child : ℕ} → AreBelow one → slice_get one at ≡ Some entry → IsLast old one child → (AllBelow at (children (entry_node entry)) → child < at) → one ≡ old
+pub settled_by : {old one : List Entry} {entry : Entry} {at child : ℕ} → AreBelow one → slice_get one at ≡ Some entry → IsLast old one child → (AreUnder at (children (entry_node entry)) → child < at) → one ≡ old
 settled_by below there (inl same) uses = same
 settled_by {one = one} {entry = entry} {at = at} {child = child} below there (inr last) uses =
     absurd (omega (arith, last, uses (below.below at entry there), get_within one at entry there))
 
-pair_settled : {old one two : List Entry} (count left right at : ℕ) → AreBelow one → AreBelow two → slice_get two at ≡ Some (record { node = code.Pair left right; count = count }) → IsLast old one left → IsLast one two right → two ≡ old
+pub pair_settled : {old one two : List Entry} (count left right at : ℕ) → AreBelow one → AreBelow two → slice_get two at ≡ Some (record { node = code.Pair left right; count = count }) → IsLast old one left → IsLast one two right → two ≡ old
 pair_settled {one = one} {two = two} count left right at one_below two_below there left_last right_last =
     let same : two ≡ one = settled_by two_below there right_last (λ h. h.1.0) in
     same ∙ settled_by one_below (rw same at there) left_last (λ h. h.0)
@@ -38,10 +38,10 @@ emits_last below (rest p a) = adds_last a (λ there. settled_by (emits_below bel
 emits_last below (both p q a) = adds_last a (λ there. pair_settled _ _ _ _ (emits_below below p) (emits_below (emits_below below p) q) there (emits_last below p) (emits_last (emits_below below p) q))
 
 -- the nodes of a longer list begin with those of the shorter
-nodes_on : (one two : List Entry) (full more : List Node) (p : IsGrown one two) → full ≡ entry_nodes two ++ more → full ≡ entry_nodes one ++ (entry_nodes p.0 ++ more)
+pub nodes_on : (one two : List Entry) (full more : List Node) (p : IsGrown one two) → full ≡ entry_nodes two ++ more → full ≡ entry_nodes one ++ (entry_nodes p.0 ++ more)
 nodes_on one two full more p is = rw (is, p.1, map-append) (append_assoc (entry_nodes one) (entry_nodes p.0) more)
 
-nodes_get : (es : List Entry) (i : ℕ) (e : Entry) → slice_get es i ≡ Some e → slice_get (entry_nodes es) i ≡ Some (entry_node e)
+pub nodes_get : (es : List Entry) (i : ℕ) (e : Entry) → slice_get es i ≡ Some e → slice_get (entry_nodes es) i ≡ Some (entry_node e)
 nodes_get [] i e there = cc
 nodes_get (z ∷ es) zero e there = let is : z ≡ e = cc in rw is refl
 nodes_get (z ∷ es) (suc i) e there = nodes_get es i e there

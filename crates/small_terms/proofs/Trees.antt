@@ -1,14 +1,14 @@
 -- Each emitted node unfolds to its plan's term.
 use Rattle.std.proofs.Common.{◌≡◌, ℕ, zero, suc, ◌+◌, ◌<◌, ◌≤◌, List, [], ◌∷◌, ◌++◌, length, map, slice_get, Option, Some, None, unwrap_or, refl, sym, ap, ◌∙◌, arith, length-append, append_assoc, append-nil}
 use Rattle.std.proofs.lemmas.List.{map-append}
-use Rattle.simplicity.specs.Nodes.{Node, children, Part, Tree, HiddenSide, part_at, part_of, parts, parts_from, count_after, tree_at, tree_of_part, tree_of_node}
+use Rattle.simplicity.specs.Nodes.{AreUnder, Node, children, Part, Tree, HiddenSide, part_at, part_of, parts, parts_from, count_after, tree_at, tree_of_part, tree_of_node}
 use Rattle.simplicity.specs.Terms as term
 use Rattle.term_core.specs.Nodes.{node_of}
 use Rattle.term_core.specs.declared.node.ListNode.TheVariants as code
 use Rattle.term_core.specs.declared.node.ListNode.{ListNode}
 use Rattle.small_terms.specs.declared.entries.Entry.{Entry}
 use Rattle.small_terms.specs.Emitting.{Adds, found, added, Emits, whole, first, rest, both}
-use Rattle.small_terms.specs.Entries.{AllBelow, AreBelow, entry_node, entry_nodes}
+use Rattle.small_terms.specs.Entries.{AreBelow, entry_node, entry_nodes}
 use Rattle.small_terms.specs.Plan.{Plan, term_of}
 use Rattle.small_terms.proofs.Lists.{get_more, get_next, get_within, get_parts}
 use Rattle.small_terms.proofs.Grown.{IsGrown, grown_on, grown_length, adds_there, adds_grown, emits_grown, emits_within, emits_below}
@@ -34,7 +34,7 @@ part_at_more (p ∷ ps) more zero less = refl
 part_at_more (p ∷ ps) more (suc i) less = part_at_more ps more i (omega arith)
 
 -- the nodes of these entries take no witness, so their parts don't depend on how many stand before
-part_same : (ps qs : List Part) (v w at : ℕ) (n : ListNode) → AllBelow at (children (node_of n)) → ((i : ℕ) → i < at → part_at ps i ≡ part_at qs i) → part_of ps v (node_of n) ≡ part_of qs w (node_of n)
+part_same : (ps qs : List Part) (v w at : ℕ) (n : ListNode) → AreUnder at (children (node_of n)) → ((i : ℕ) → i < at → part_at ps i ≡ part_at qs i) → part_of ps v (node_of n) ≡ part_of qs w (node_of n)
 part_same ps qs v w at code.Iden below same = refl
 part_same ps qs v w at (code.Take i) below same = rw (same i below.0) refl
 part_same ps qs v w at (code.Drop i) below same = rw (same i below.0) refl
@@ -56,7 +56,7 @@ front_part es more i less =
 part_next : (ps : List Part) (p : Part) (i : ℕ) → length ps ≡ i → part_at (ps ++ p ∷ []) i ≡ p
 part_next ps p i long = rw (← long, get_next ps [] p) refl
 
-unfolds_split : (front back : List Entry) (e : Entry) → AllBelow (length front) (children (entry_node e)) → part_at (parts (entry_nodes (front ++ e ∷ back))) (length front) ≡ part_of (parts (entry_nodes (front ++ e ∷ back))) 0 (entry_node e)
+unfolds_split : (front back : List Entry) (e : Entry) → AreUnder (length front) (children (entry_node e)) → part_at (parts (entry_nodes (front ++ e ∷ back))) (length front) ≡ part_of (parts (entry_nodes (front ++ e ∷ back))) 0 (entry_node e)
 unfolds_split front back e below =
     let longer : front ++ e ∷ back ≡ (front ++ e ∷ []) ++ back = sym (append_assoc front (e ∷ []) back) in
     let here : length front < length (front ++ e ∷ []) = omega (arith, length-append front (e ∷ [])) in
@@ -66,7 +66,7 @@ unfolds_split front back e below =
     let two : part_at (parts (entry_nodes (front ++ e ∷ []))) (length front) ≡ part_of (parts (entry_nodes front)) a.0 (entry_node e) = rw (map-append, a.1) (part_next (parts (entry_nodes front)) _ (length front) long) in
     one ∙ two ∙ part_same (parts (entry_nodes front)) (parts (entry_nodes (front ++ e ∷ back))) a.0 0 (length front) e.node below (λ i less. sym (front_part front (e ∷ back) i less))
 
-unfolds_at : (es front back : List Entry) (at : ℕ) (e : Entry) → es ≡ front ++ e ∷ back → length front ≡ at → AllBelow at (children (entry_node e)) → part_at (parts (entry_nodes es)) at ≡ part_of (parts (entry_nodes es)) 0 (entry_node e)
+unfolds_at : (es front back : List Entry) (at : ℕ) (e : Entry) → es ≡ front ++ e ∷ back → length front ≡ at → AreUnder at (children (entry_node e)) → part_at (parts (entry_nodes es)) at ≡ part_of (parts (entry_nodes es)) 0 (entry_node e)
 unfolds_at es front back at e is long below = rw (is, ← long) (unfolds_split front back e (rw long below))
 
 -- what an entry stands for, by its children's parts

@@ -1,6 +1,7 @@
 -- Tuples by halves: none of them is the empty tuple, one is itself, more are the first half, rounded down, beside the rest.
 -- The division is this project's own.
 use Rattle.std.specs.Prelude.{ℕ, zero, suc, ◌+◌, ◌/◌, List, [], ◌∷◌, length, take, drop, map, replicate}
+use Rattle.small_source.specs.Small.{SmallBody, Named, Paired}
 use Rattle.simplicity.specs.Types.{Kind, One, Product, Value, UnitValue, Pair, word_kind, word_value}
 
 -- what joins a list by halves; so many turns are enough as the list is long
@@ -24,3 +25,8 @@ bytes_value bytes = tuple_value (map (word_value 3) bytes)
 
 abbrev pub bytes_kind : ℕ → Kind
 bytes_kind count = tuple_kind (replicate count (word_kind 3))
+
+-- the type of what a body gives
+abbrev pub result_kind : SmallBody → Kind
+result_kind (Named name place) = word_kind 3
+result_kind (Paired left right) = Product (result_kind left) (result_kind right)

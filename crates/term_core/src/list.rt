@@ -1,6 +1,7 @@
 //! Lists of nodes.
 
 ghost use Rattle.std.specs.Prelude.{◌≡◌, ◌<◌, [], ◌∷◌, ◌++◌, length, slice_get, option_map, OnOk, OnErr, Some};
+ghost use Rattle.simplicity.specs.Carried.{AreCarried};
 ghost use Rattle.simplicity.specs.Nodes.{CanFollow, IsPlaced};
 ghost use Rattle.term_core.specs.Nodes.{node_of, nodes_of};
 
@@ -65,6 +66,7 @@ impl NodeList {
     pub fn as_slice(&self) -> &[ListNode]
         ensures nodes { nodes_of result.now ≡ self.now }
         ensures placed { IsPlaced self.now }
+        ensures carried { AreCarried self.now }
     {
         self.nodes.as_slice()
     }
