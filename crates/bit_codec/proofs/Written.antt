@@ -1,5 +1,5 @@
 -- Where a placed list's children stand, and the bits of one node more.
-use Rattle.std.proofs.Common.{◌≡◌, ℕ, zero, suc, ◌+◌, ◌<◌, List, [], ◌∷◌, ◌++◌, length, take, get_or, map, Bool, Some, None, slice_get, refl, sym, ap, ◌∙◌, arith, append_assoc, append-nil, length-append, add-one, length-take, Option, IsSome}
+use Rattle.std.proofs.Common.{◌≡◌, ℕ, zero, suc, ◌+◌, ◌<◌, List, [], ◌∷◌, ◌++◌, length, take, get_or, Bool, Some, None, slice_get, refl, ap, arith, append_assoc, append-nil, length-append, add-one, length-take, Option, IsSome}
 use Rattle.simplicity.specs.Nodes as node
 use Rattle.simplicity.specs.Nodes.{Node, CanFollow, PlacedAfter, IsPlaced, IsShown, AreCaseSides, AreUnder, children}
 use Rattle.simplicity.specs.Spelling.{node_bits, nodes_bits}

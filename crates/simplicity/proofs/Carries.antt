@@ -23,22 +23,22 @@ bytes_by (b ∷ bs) e =
     let p : (nat_lt b 256 ≡ true) × (list_all (λ c. nat_lt c 256) bs ≡ true) = both (nat_lt b 256) (list_all (λ c. nat_lt c 256) bs) e in
     (below p.0, bytes_by bs p.1)
   where
-  below : nat_lt b 256 ≡ true → b < 256
-  below test = grind (arith, nat_tests)
+    below : nat_lt b 256 ≡ true → b < 256
+    below test = grind (arith, nat_tests)
 
 sized_by : (n : ℕ) (bs : List ℕ) → (nat_eq (length bs) n && list_all (λ b. nat_lt b 256) bs) ≡ true → AreBytes n bs
 sized_by n bs e =
     let p : (nat_eq (length bs) n ≡ true) × (list_all (λ c. nat_lt c 256) bs ≡ true) = both (nat_eq (length bs) n) (list_all (λ c. nat_lt c 256) bs) e in
     (same p.0, bytes_by bs p.1)
   where
-  same : nat_eq (length bs) n ≡ true → length bs ≡ n
-  same test = grind (arith, nat_tests)
+    same : nat_eq (length bs) n ≡ true → length bs ≡ n
+    same test = grind (arith, nat_tests)
 
 word_by : (k n : ℕ) → (nat_le k 8 && nat_lt n (word_count k)) ≡ true → (k ≤ 8) × (n < word_count k)
 word_by k n e = fits (both (nat_le k 8) (nat_lt n (word_count k)) e)
   where
-  fits : (nat_le k 8 ≡ true) × (nat_lt n (word_count k) ≡ true) → (k ≤ 8) × (n < word_count k)
-  fits p = (grind (arith, nat_tests, p.0), grind (arith, nat_tests, p.1))
+    fits : (nat_le k 8 ≡ true) × (nat_lt n (word_count k) ≡ true) → (k ≤ 8) × (n < word_count k)
+    fits p = (grind (arith, nat_tests, p.0), grind (arith, nat_tests, p.1))
 
 node_by : (n : Node) → carries n ≡ true → IsCarried n
 node_by (node.Hidden h) e = sized_by 32 h e

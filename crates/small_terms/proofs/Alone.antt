@@ -1,11 +1,11 @@
 -- Emitted entries have no other typing with an arrow at their root, and none of them twice.
-use Rattle.std.proofs.Common.{◌≡◌, ℕ, zero, suc, ◌+◌, ◌<◌, ◌≤◌, Bool, true, false, nat_lt, List, [], ◌∷◌, ◌++◌, length, slice_get, Option, Some, None, refl, sym, ap, ◌∙◌, arith, length-append, ◌⊎◌, inl, inr}
+use Rattle.std.proofs.Common.{◌≡◌, ℕ, zero, suc, ◌<◌, ◌≤◌, Bool, true, false, nat_lt, List, [], ◌∷◌, ◌++◌, length, slice_get, Some, refl, sym, ap, ◌∙◌, arith, length-append, ◌⊎◌, inl, inr}
 use Rattle.std.proofs.lemmas.Bool.Decides.{nat_tests}
 use Rattle.simplicity.specs.Types.{Kind, Product}
 use Rattle.simplicity.specs.Nodes as node
 use Rattle.simplicity.specs.Nodes.{Node}
-use Rattle.simplicity.specs.Shared.{AreSame, IsShared}
-use Rattle.simplicity.specs.Typing.{Typing, HasArrow, Meets, IsTyping}
+use Rattle.simplicity.specs.Shared.{IsShared}
+use Rattle.simplicity.specs.Typing.{Typing, HasArrow, IsTyping}
 use Rattle.simplicity.proofs.Inversion.{take_meets, take_part, drop_meets, drop_part, pair_meets, pair_parts}
 use Rattle.simplicity.proofs.Typings.{meets_at}
 use Rattle.term_core.specs.Nodes.{node_of}
@@ -17,8 +17,8 @@ use Rattle.small_terms.specs.Entries.{AreBelow, entry_node, entry_nodes}
 use Rattle.small_terms.specs.Plan.{Plan}
 use Rattle.small_terms.specs.Tuples.{bytes_kind}
 use Rattle.small_terms.proofs.ByteKinds.{bytes_apart}
-use Rattle.small_terms.proofs.Grown.{adds_there, adds_grown, emits_below, emits_within, emits_grown}
-use Rattle.small_terms.proofs.Lists.{get_more, get_one_more, get_within}
+use Rattle.small_terms.proofs.Grown.{adds_there, adds_grown, emits_below, emits_grown}
+use Rattle.small_terms.proofs.Lists.{get_more, get_one_more}
 use Rattle.small_terms.proofs.Ordered.{emits_last, settled_by, pair_settled, nodes_on, nodes_get}
 use Rattle.small_terms.proofs.Typed.{IsTypedBy, one_arrow}
 
@@ -32,18 +32,18 @@ agree_nothing ts us low high none j least less = absurd (omega arith)
 agree_next : (ts us : Typing) (low high at : ℕ) → at ≡ high → Agree ts us low high → slice_get ts at ≡ slice_get us at → Agree ts us low (suc high)
 agree_next ts us low high at is before here j least less = split (nat_lt j high) refl
   where
-  split : (b : Bool) → nat_lt j high ≡ b → slice_get ts j ≡ slice_get us j
-  split true e = before j least (grind (arith, nat_tests))
-  split false e =
-      let same : at ≡ j = grind (arith, nat_tests) in
-      rw same at here
+    split : (b : Bool) → nat_lt j high ≡ b → slice_get ts j ≡ slice_get us j
+    split true e = before j least (grind (arith, nat_tests))
+    split false e =
+        let same : at ≡ j = grind (arith, nat_tests) in
+        rw same at here
 
 agree_joined : (ts us : Typing) (low middle high : ℕ) → Agree ts us low middle → Agree ts us middle high → Agree ts us low high
 agree_joined ts us low middle high before after j least less = split (nat_lt j middle) refl
   where
-  split : (b : Bool) → nat_lt j middle ≡ b → slice_get ts j ≡ slice_get us j
-  split true e = before j least (grind (arith, nat_tests))
-  split false e = after j (grind (arith, nat_tests)) less
+    split : (b : Bool) → nat_lt j middle ≡ b → slice_get ts j ≡ slice_get us j
+    split true e = before j least (grind (arith, nat_tests))
+    split false e = after j (grind (arith, nat_tests)) less
 
 -- where a node was added, its children's typings agree up to it, and it has one arrow in both, they agree with it
 adds_agree : {old one new : List Entry} {entry : Entry} {at : ℕ} → Adds one entry new at → (slice_get one at ≡ Some entry → one ≡ old) → (ts us : Typing) → slice_get ts at ≡ slice_get us at → Agree ts us (length old) (length one) → Agree ts us (length old) (length new)
@@ -102,8 +102,8 @@ emits_agree {old} {new} below (both {one = one} {two = two} {count = count} {lef
     let two_is : full ≡ entry_nodes two ++ (entry_nodes (adds_grown x).0 ++ more) = nodes_on two new full more (adds_grown x) is in
     adds_agree x (λ there. pair_settled _ _ _ _ (emits_below below p) (emits_below (emits_below below p) q) there (emits_last below p) (emits_last (emits_below below p) q)) ts us (h ∙ sym g)
     (agree_joined ts us (length old) (length one) (length two)
-        (emits_agree below p ts us full _ t u (nodes_on one two full _ (emits_grown q) two_is) a c.one c.left_of_first c.left_of_second)
-        (emits_agree (emits_below below p) q ts us full _ t u two_is a c.two c.right_of_first c.right_of_second))
+    (emits_agree below p ts us full _ t u (nodes_on one two full _ (emits_grown q) two_is) a c.one c.left_of_first c.left_of_second)
+    (emits_agree (emits_below below p) q ts us full _ t u two_is a c.two c.right_of_first c.right_of_second))
 
 -- lists that agree on all places are one
 pub same_entries : (ts us : Typing) → length ts ≡ length us → Agree ts us 0 (length ts) → ts ≡ us
@@ -124,11 +124,11 @@ adds_distinct distinct (found there is) = rw is distinct
 adds_distinct {old} {new} {entry} {at} distinct (added none here is) =
     record { apart = λ i j e p q. places i j e (get_one_more old entry i e (rw is at p)) (get_one_more old entry j e (rw is at q)) }
   where
-  places : (i j : ℕ) (e : Entry) → (slice_get old i ≡ Some e) ⊎ ((i ≡ length old) × (e ≡ entry)) → (slice_get old j ≡ Some e) ⊎ ((j ≡ length old) × (e ≡ entry)) → i ≡ j
-  places i j e (inl p) (inl q) = distinct.apart i j e p q
-  places i j e (inl p) (inr q) = absurd (none i (p ∙ ap Some q.1))
-  places i j e (inr p) (inl q) = absurd (none j (q ∙ ap Some p.1))
-  places i j e (inr p) (inr q) = p.0 ∙ sym q.0
+    places : (i j : ℕ) (e : Entry) → (slice_get old i ≡ Some e) ⊎ ((i ≡ length old) × (e ≡ entry)) → (slice_get old j ≡ Some e) ⊎ ((j ≡ length old) × (e ≡ entry)) → i ≡ j
+    places i j e (inl p) (inl q) = distinct.apart i j e p q
+    places i j e (inl p) (inr q) = absurd (none i (p ∙ ap Some q.1))
+    places i j e (inr p) (inl q) = absurd (none j (q ∙ ap Some p.1))
+    places i j e (inr p) (inr q) = p.0 ∙ sym q.0
 
 pub emits_distinct : {old new : List Entry} {plan : Plan} {at : ℕ} → AreDistinct old → Emits old plan new at → AreDistinct new
 emits_distinct distinct (whole a) = adds_distinct distinct a

@@ -1,10 +1,9 @@
 -- Types of tuples of bytes: how they divide, and that their sizes tell them apart.
-use Rattle.std.proofs.Common.{◌≡◌, ℕ, zero, suc, ◌+◌, ◌-◌, ◌*◌, ◌/◌, ◌<◌, ◌≤◌, List, [], ◌∷◌, length, take, drop, replicate, refl, sym, ap, ◌∙◌, arith, length-take, length-drop}
+use Rattle.std.proofs.Common.{◌≡◌, ℕ, zero, suc, ◌+◌, ◌-◌, ◌*◌, ◌/◌, ◌<◌, ◌≤◌, List, [], ◌∷◌, length, take, drop, replicate, refl, ap, ◌∙◌, arith, length-take, length-drop}
 use Rattle.std.proofs.lemmas.List.{length-replicate, take-replicate, drop-replicate}
 use Rattle.simplicity.specs.Types.{Kind, One, Product, size, word_kind}
 use Rattle.small_terms.specs.Tuples.{halves, tuple_kind, bytes_kind}
 use Rattle.small_terms.proofs.Paths.{halves_pair}
-
 
 copies_pair : (n : ℕ) (k : Kind) → 1 < n → tuple_kind (replicate n k) ≡ Product (tuple_kind (replicate (n / 2) k)) (tuple_kind (replicate (n - n / 2) k))
 copies_pair n k some =

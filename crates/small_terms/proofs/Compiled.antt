@@ -1,25 +1,23 @@
 -- What the entries of a body are once all are emitted.
-use Rattle.std.proofs.Common.{◌≡◌, ℕ, zero, suc, ◌+◌, ◌-◌, ◌*◌, ◌^◌, ◌<◌, ◌≤◌, List, [], ◌∷◌, ◌++◌, length, slice_get, Option, Some, None, refl, sym, ap, ◌∙◌, arith, length-append, append-nil, ◌⊎◌, inl, inr}
+use Rattle.std.proofs.Common.{◌≡◌, ℕ, zero, suc, ◌+◌, ◌-◌, ◌*◌, ◌^◌, ◌<◌, ◌≤◌, List, [], ◌∷◌, length, slice_get, None, sym, ap, ◌∙◌, arith, length-append, append-nil, inl, inr}
 use Rattle.std.proofs.Math.Nat.{pow-le-pow_right}
-use Rattle.simplicity.specs.Nodes.{Node, HasRoot, IsShown, tree_of_node, tree_of}
+use Rattle.simplicity.specs.Nodes.{Node, IsShown, tree_of_node}
 use Rattle.simplicity.specs.Shared.{IsCanonical}
 use Rattle.simplicity.specs.Typing.{IsTypingAt}
 use Rattle.simplicity.proofs.Below.{typing_below_self}
 use Rattle.simplicity.proofs.Typings.{typing_length}
-use Rattle.simplicity.specs.Terms.{meaning}
-use Rattle.term_core.specs.Nodes.{node_of}
 use Rattle.small_source.specs.Small.{Small, nesting}
 use Rattle.small_terms.specs.declared.entries.Entry.{Entry}
 use Rattle.small_terms.specs.Compiled.{IsCompiled, IsModest, HasOneTyping, arrow_of}
 use Rattle.small_terms.specs.Emitting.{Adds, found, added, Emits, whole, first, rest, both}
-use Rattle.small_terms.specs.Entries.{AreBelow, entry_node, entry_nodes}
+use Rattle.small_terms.specs.Entries.{AreBelow, entry_nodes}
 use Rattle.small_terms.specs.Plan.{Plan, Makes, term_of}
 use Rattle.small_terms.specs.Result.{first_unknown}
 use Rattle.small_terms.specs.Tuples.{bytes_kind, result_kind}
 use Rattle.small_terms.proofs.Alone.{Agree, emits_agree, same_entries, emits_distinct, none_distinct, shared}
 use Rattle.small_terms.proofs.Sized.{makes_count, makes_fits, makes_target}
 use Rattle.small_terms.proofs.Typed.{IsTypedOn, none_typed, emits_typed}
-use Rattle.small_terms.proofs.Grown.{emits_within, emits_below, adds_there}
+use Rattle.small_terms.proofs.Grown.{emits_within, emits_below}
 use Rattle.small_terms.proofs.Lists.{upto}
 use Rattle.small_terms.proofs.Listed.{shown_node}
 use Rattle.small_terms.proofs.Ordered.{IsLast, emits_last, emits_order}
@@ -86,12 +84,14 @@ made_canonical f new at m =
     let long : length (entry_nodes new) ≡ length new = length-entry_nodes new in
     let last : length (entry_nodes new) - 1 ≡ at = made_last f new at m in
     let within : at < length new = emits_within m.emits in
-    let typing : IsTypingAt (entry_nodes new) (arrow_of f) t.typing = record { typed = t.by.typed; rooted = rw last t.here } in
-    (t.typing, record {
+    let typing : IsTypingAt (entry_nodes new) (arrow_of f) t.typing = record { typed = t.by.typed; rooted = rw last t.here } in (
+      t.typing,
+      record {
         ordered = rw last (emits_order none_below m.emits (entry_nodes new) [] (sym (append-nil (entry_nodes new))) (length (entry_nodes new)) (omega arith) ∙ ap upto (sym long));
         least = record { typing = typing; least = λ us other. rw (made_alone f new at m us t.typing other typing) (typing_below_self t.typing) };
-        shared = shared new t.typing (emits_distinct none_distinct m.emits) t.by
-    })
+        shared = shared new t.typing (emits_distinct none_distinct m.emits) t.by;
+      },
+    )
 
 compiled_at : (f : Small) (new : List Entry) (at : ℕ) (nodes : List Node) → Made f new at → nodes ≡ entry_nodes new → IsCompiled nodes f
 compiled_at f new at nodes m is =
@@ -100,10 +100,10 @@ compiled_at f new at nodes m is =
     let last : length (entry_nodes new) - 1 ≡ at = made_last f new at m in
     let tree : tree_of_node (entry_nodes new) at ≡ term_of m.plan = emits_tree none_below m.emits in
     rw is (record {
-        rooted = (rw last (shown_at new at within), omega arith);
-        canonical = made_canonical f new at m;
-        one_typing = made_alone f new at m;
-        gives = λ bytes same. rw (last, tree) (made_value m.makes bytes same)
+      rooted = (rw last (shown_at new at within), omega arith);
+      canonical = made_canonical f new at m;
+      one_typing = made_alone f new at m;
+      gives = λ bytes same. rw (last, tree) (made_value m.makes bytes same);
     })
 
 pub compiled : (f : Small) (old new : List Entry) (at : ℕ) (nodes : List Node) → old ≡ [] → first_unknown f.parameters f.body ≡ None → ((p : Plan) → Makes f.parameters f.body p → Emits old p new at) → nodes ≡ entry_nodes new → IsCompiled nodes f

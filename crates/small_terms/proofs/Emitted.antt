@@ -1,15 +1,13 @@
 -- What the code emits, for the plan that there is.
-use Rattle.std.proofs.Common.{◌≡◌, ℕ, zero, suc, ◌+◌, ◌-◌, ◌/◌, ◌<◌, ◌≤◌, Bool, true, false, List, [], ◌∷◌, length, slice_get, Option, Some, None, refl, sym, ap, ◌∙◌, arith, nat_lt}
+use Rattle.std.proofs.Common.{◌≡◌, ℕ, ◌-◌, ◌/◌, ◌<◌, ◌≤◌, Bool, true, false, List, length, slice_get, Some, None, refl, arith, nat_lt}
 use Rattle.std.proofs.lemmas.Bool.Decides.{nat_tests}
 use Rattle.term_core.specs.declared.node.ListNode.TheVariants as code
 use Rattle.small_source.specs.Small.{SmallBody, Named, Paired}
-use Rattle.small_source.specs.Names.{is_among}
 use Rattle.small_terms.specs.declared.entries.Entry.{Entry}
 use Rattle.small_terms.specs.Emitting.{Adds, Emits, whole, first, rest, both}
 use Rattle.small_terms.specs.Plan.{Plan, Whole, First, Rest, Both, Picks, Makes, named, paired, IsFirst}
 use Rattle.small_terms.specs.Plan as plan
 use Rattle.small_terms.specs.Result.{first_unknown}
-use Rattle.small_terms.proofs.Lists.{get_within}
 use Rattle.small_terms.proofs.Found.{among, not_among}
 
 pub emits_whole : (count place : ℕ) (old new : List Entry) (at : ℕ) → count ≡ 1 → Adds old (record { node = code.Iden; count = count }) new at → (p : Plan) → Picks count place p → Emits old p new at
@@ -31,10 +29,10 @@ emits_rest count place child at old one new more past emits a p (plan.rest some 
 first_same : (names : List (List ℕ)) (name : List ℕ) (i j : ℕ) → IsFirst names name i → IsFirst names name j → i ≡ j
 first_same names name i j f g = split (nat_lt i j) (nat_lt j i) refl refl
   where
-  split : (b c : Bool) → nat_lt i j ≡ b → nat_lt j i ≡ c → i ≡ j
-  split true c e h = absurd (g.before i (grind (arith, nat_tests)) f.there)
-  split false true e h = absurd (f.before j (grind (arith, nat_tests)) g.there)
-  split false false e h = grind (arith, nat_tests)
+    split : (b c : Bool) → nat_lt i j ≡ b → nat_lt j i ≡ c → i ≡ j
+    split true c e h = absurd (g.before i (grind (arith, nat_tests)) f.there)
+    split false true e h = absurd (f.before j (grind (arith, nat_tests)) g.there)
+    split false false e h = grind (arith, nat_tests)
 
 pub emits_named : (names : List (List ℕ)) (name : List ℕ) (start place : ℕ) (old new : List Entry) (at : ℕ) → IsFirst names name place → ((p : Plan) → Picks (length names) place p → Emits old p new at) → (p : Plan) → Makes names (Named name start) p → Emits old p new at
 emits_named names name start place old new at f emits p (named {place = other} g picks) = emits p (rw (first_same names name place other f g) picks)

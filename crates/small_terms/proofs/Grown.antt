@@ -1,7 +1,6 @@
 -- What adding entries keeps: the old ones in front, children before their parents, the plan's own entry last or nothing new.
-use Rattle.std.proofs.Common.{◌≡◌, ℕ, zero, suc, ◌+◌, ◌<◌, ◌≤◌, List, [], ◌∷◌, ◌++◌, length, slice_get, Some, refl, sym, ap, ◌∙◌, arith, length-append, append_assoc, append-nil, ◌⊎◌, inl, inr, subst}
+use Rattle.std.proofs.Common.{◌≡◌, ℕ, ◌<◌, ◌≤◌, List, [], ◌∷◌, ◌++◌, length, slice_get, Some, sym, ap, ◌∙◌, arith, length-append, append_assoc, append-nil, ◌⊎◌, inl, inr}
 use Rattle.simplicity.specs.Nodes.{AreUnder, children}
-use Rattle.term_core.specs.declared.node.ListNode.TheVariants as code
 use Rattle.small_terms.specs.declared.entries.Entry.{Entry}
 use Rattle.small_terms.specs.Emitting.{Adds, found, added, Emits, whole, first, rest, both}
 use Rattle.small_terms.specs.Entries.{AreBelow, entry_node}

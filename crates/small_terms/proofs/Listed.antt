@@ -1,12 +1,12 @@
 -- Entries whose children stand before them make a placed list.
-use Rattle.std.proofs.Common.{◌≡◌, ℕ, zero, suc, ◌+◌, ◌<◌, ◌≤◌, List, [], ◌∷◌, ◌++◌, length, take, get_or, slice_get, Option, Some, None, refl, sym, ap, ◌∙◌, arith}
+use Rattle.std.proofs.Common.{◌≡◌, ℕ, zero, suc, ◌<◌, ◌≤◌, List, [], ◌∷◌, length, take, get_or, slice_get, Some, arith}
 use Rattle.std.proofs.lemmas.Option.{slice_get-get_or}
 use Rattle.simplicity.specs.Nodes.{AreUnder, Node, IsShown, CanFollow, children}
 use Rattle.term_core.specs.Nodes.{node_of}
 use Rattle.term_core.specs.declared.node.ListNode.TheVariants as code
 use Rattle.term_core.specs.declared.node.ListNode.{ListNode}
 use Rattle.small_terms.specs.declared.entries.Entry.{Entry}
-use Rattle.small_terms.specs.Entries.{AreBelow, entry_node, entry_nodes}
+use Rattle.small_terms.specs.Entries.{AreBelow, entry_nodes}
 
 pub shown_node : (n : ListNode) → IsShown (Some (node_of n))
 shown_node code.Iden = tt

@@ -1,15 +1,15 @@
 -- Emitting a plan adds its nodes in the order in which a walk from its root ends them.
-use Rattle.std.proofs.Common.{◌≡◌, ℕ, zero, suc, ◌+◌, ◌<◌, ◌≤◌, List, [], ◌∷◌, ◌++◌, length, map, slice_get, Some, refl, sym, ap, ◌∙◌, arith, length-append, append_assoc, ◌⊎◌, inl, inr}
+use Rattle.std.proofs.Common.{◌≡◌, ℕ, zero, suc, ◌<◌, ◌≤◌, List, [], ◌∷◌, ◌++◌, length, slice_get, Some, refl, sym, ap, ◌∙◌, arith, length-append, append_assoc, ◌⊎◌, inl, inr}
 use Rattle.std.proofs.lemmas.List.{map-append}
 use Rattle.simplicity.specs.Nodes.{AreUnder, Node, children}
-use Rattle.simplicity.specs.Order.{has, over, ended, unless_ended, children_at}
+use Rattle.simplicity.specs.Order.{over, ended, children_at}
 use Rattle.term_core.specs.declared.node.ListNode.TheVariants as code
 use Rattle.small_terms.specs.declared.entries.Entry.{Entry}
 use Rattle.small_terms.specs.Emitting.{Adds, found, added, Emits, whole, first, rest, both}
 use Rattle.small_terms.specs.Entries.{AreBelow, entry_node, entry_nodes}
 use Rattle.small_terms.specs.Plan.{Plan}
 use Rattle.small_terms.proofs.Lists.{get_more, get_within, upto, upto_next, has_upto, has_upto_past}
-use Rattle.small_terms.proofs.Grown.{IsGrown, grown_same, grown_on, grown_length, adds_there, adds_grown, emits_grown, emits_within, emits_below}
+use Rattle.small_terms.proofs.Grown.{IsGrown, grown_same, grown_on, grown_length, adds_there, emits_grown, emits_within, emits_below}
 
 -- nothing was added, or the place is the last
 abbrev pub IsLast : List Entry → List Entry → ℕ → Type 0

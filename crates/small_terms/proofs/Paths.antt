@@ -1,9 +1,9 @@
 -- A plan that picks a byte gives its value on the tuple, and each place has such a plan.
-use Rattle.std.proofs.Common.{◌≡◌, ℕ, zero, suc, ◌+◌, ◌-◌, ◌/◌, ◌<◌, ◌≤◌, List, [], ◌∷◌, ◌++◌, length, take, drop, slice_get, Option, Some, None, refl, sym, ap, ◌∙◌, arith, length-take, length-drop, Bool, true, false, nat_lt}
+use Rattle.std.proofs.Common.{◌≡◌, ℕ, zero, suc, ◌+◌, ◌-◌, ◌/◌, ◌<◌, ◌≤◌, List, [], ◌∷◌, length, take, drop, slice_get, Some, refl, sym, ap, ◌∙◌, arith, length-take, length-drop, Bool, true, false, nat_lt}
 use Rattle.std.proofs.lemmas.Bool.Decides.{nat_tests}
 use Rattle.simplicity.specs.Types.{Value, UnitValue, Pair}
 use Rattle.simplicity.specs.Terms.{meaning}
-use Rattle.small_terms.specs.Plan.{Plan, Whole, First, Rest, Both, Picks, whole, first, rest, term_of, count_of}
+use Rattle.small_terms.specs.Plan.{Plan, Whole, First, Rest, Picks, whole, first, rest, term_of, count_of}
 use Rattle.small_terms.specs.Tuples.{halves, tuple_value}
 
 -- turns past the length change nothing
@@ -25,8 +25,10 @@ halves_pair e f (x ∷ []) some = absurd (omega arith)
 halves_pair e f (x ∷ y ∷ more) some =
     let front : length (take (length (x ∷ y ∷ more) / 2) (x ∷ y ∷ more)) < length (x ∷ y ∷ more) = omega (arith, length-take (length (x ∷ y ∷ more) / 2) (x ∷ y ∷ more)) in
     let back : length (drop (length (x ∷ y ∷ more) / 2) (x ∷ y ∷ more)) < length (x ∷ y ∷ more) = omega (arith, length-drop (length (x ∷ y ∷ more) / 2) (x ∷ y ∷ more)) in
-    cc (halves_turns e f (suc (length more)) (length (take (length (x ∷ y ∷ more) / 2) (x ∷ y ∷ more))) (take (length (x ∷ y ∷ more) / 2) (x ∷ y ∷ more)) (omega arith) (omega arith),
-        halves_turns e f (suc (length more)) (length (drop (length (x ∷ y ∷ more) / 2) (x ∷ y ∷ more))) (drop (length (x ∷ y ∷ more) / 2) (x ∷ y ∷ more)) (omega arith) (omega arith))
+    cc (
+      halves_turns e f (suc (length more)) (length (take (length (x ∷ y ∷ more) / 2) (x ∷ y ∷ more))) (take (length (x ∷ y ∷ more) / 2) (x ∷ y ∷ more)) (omega arith) (omega arith),
+      halves_turns e f (suc (length more)) (length (drop (length (x ∷ y ∷ more) / 2) (x ∷ y ∷ more))) (drop (length (x ∷ y ∷ more) / 2) (x ∷ y ∷ more)) (omega arith) (omega arith),
+    )
 
 -- more than one value are a pair of two tuples
 pub tuple_pair : (vs : List Value) → 1 < length vs → tuple_value vs ≡ Pair (tuple_value (take (length vs / 2) vs)) (tuple_value (drop (length vs / 2) vs))

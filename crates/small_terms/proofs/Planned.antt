@@ -1,8 +1,8 @@
 -- A body that knows its names has a plan, which gives what the body names and is small.
-use Rattle.std.proofs.Common.{◌≡◌, ℕ, zero, suc, ◌+◌, ◌-◌, ◌*◌, ◌/◌, ◌^◌, ◌<◌, ◌≤◌, max, Bool, true, false, ◌||◌, List, [], ◌∷◌, length, map, slice_get, Option, Some, None, refl, sym, ap, ◌∙◌, arith, bytes_eq, if◌then◌else◌, pow-suc}
+use Rattle.std.proofs.Common.{◌≡◌, ℕ, zero, suc, ◌+◌, ◌*◌, ◌^◌, ◌<◌, ◌≤◌, max, Bool, true, false, ◌||◌, List, [], ◌∷◌, length, map, slice_get, Option, Some, None, refl, ap, ◌∙◌, arith, bytes_eq, if◌then◌else◌, pow-suc}
 use Rattle.std.proofs.lemmas.Slice.Eq.{bytes_eq-Decides}
 use Rattle.std.proofs.Math.Nat.{pow-le-pow_right}
-use Rattle.simplicity.specs.Types.{Value, Pair, word_value}
+use Rattle.simplicity.specs.Types.{word_value}
 use Rattle.simplicity.specs.Terms.{meaning}
 use Rattle.small_source.specs.Names.{is_among}
 use Rattle.small_source.specs.Small.{SmallBody, Named, Paired, nesting}
@@ -20,12 +20,12 @@ first_place_next n names name false test there later =
     let p : (place : ℕ) × IsFirst names name place = later there in
     (suc p.0, record { there = p.1.there; before = before p.0 p.1 })
   where
-  before : (place : ℕ) → IsFirst names name place → (i : ℕ) → i < suc place → ¬ (slice_get (n ∷ names) i ≡ Some name)
-  before place f zero less here =
-      let e : n ≡ name = cc in
-      let yes : bytes_eq n name ≡ true = (bytes_eq-Decides n name).1 e in
-      cc
-  before place f (suc i) less here = f.before i (omega arith) here
+    before : (place : ℕ) → IsFirst names name place → (i : ℕ) → i < suc place → ¬ (slice_get (n ∷ names) i ≡ Some name)
+    before place f zero less here =
+        let e : n ≡ name = cc in
+        let yes : bytes_eq n name ≡ true = (bytes_eq-Decides n name).1 e in
+        cc
+    before place f (suc i) less here = f.before i (omega arith) here
 
 first_place : (names : List (List ℕ)) (name : List ℕ) → is_among names name ≡ true → (place : ℕ) × IsFirst names name place
 first_place [] name there = cc
@@ -60,9 +60,9 @@ first_byte (n ∷ names) (b ∷ bytes) name zero same there before =
 first_byte (n ∷ names) (b ∷ bytes) name (suc place) same there before =
     other (bytes_eq n name) refl (first_byte names bytes name place (omega arith) there (λ i less. before (suc i) (omega arith)))
   where
-  other : (c : Bool) → bytes_eq n name ≡ c → slice_get bytes place ≡ Some (byte_named names bytes name) → slice_get bytes place ≡ Some (if c then b else byte_named names bytes name)
-  other true test later = absurd (before 0 (omega arith) (ap Some ((bytes_eq-Decides n name).0 test)))
-  other false test later = later
+    other : (c : Bool) → bytes_eq n name ≡ c → slice_get bytes place ≡ Some (byte_named names bytes name) → slice_get bytes place ≡ Some (if c then b else byte_named names bytes name)
+    other true test later = absurd (before 0 (omega arith) (ap Some ((bytes_eq-Decides n name).0 test)))
+    other false test later = later
 
 get_map : {X Y : Type 0} (f : X → Y) (xs : List X) (i : ℕ) (x : X) → slice_get xs i ≡ Some x → slice_get (map f xs) i ≡ Some (f x)
 get_map f [] i x there = cc

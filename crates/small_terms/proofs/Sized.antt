@@ -1,7 +1,7 @@
 -- Plans whose parts have as many bytes as they are given, and what they give.
-use Rattle.std.proofs.Common.{◌≡◌, ℕ, ◌-◌, ◌/◌, ◌<◌, List, length, refl, sym, ap, ◌∙◌}
+use Rattle.std.proofs.Common.{◌≡◌, ℕ, ◌-◌, ◌/◌, ◌<◌, List, length, refl}
 use Rattle.simplicity.specs.Types.{Kind, Product, word_kind}
-use Rattle.small_source.specs.Small.{SmallBody, Named, Paired}
+use Rattle.small_source.specs.Small.{SmallBody}
 use Rattle.small_terms.specs.Plan.{Plan, Whole, First, Rest, Both, Picks, whole, first, rest, Makes, named, paired, count_of}
 use Rattle.small_terms.specs.Tuples.{result_kind}
 use Rattle.small_terms.proofs.Paths.{picks_count}

@@ -1,17 +1,16 @@
 -- Each emitted node unfolds to its plan's term.
-use Rattle.std.proofs.Common.{◌≡◌, ℕ, zero, suc, ◌+◌, ◌<◌, ◌≤◌, List, [], ◌∷◌, ◌++◌, length, map, slice_get, Option, Some, None, unwrap_or, refl, sym, ap, ◌∙◌, arith, length-append, append_assoc, append-nil}
+use Rattle.std.proofs.Common.{◌≡◌, ℕ, zero, suc, ◌+◌, ◌<◌, List, [], ◌∷◌, ◌++◌, length, slice_get, Some, refl, sym, ap, ◌∙◌, arith, length-append, append_assoc, append-nil}
 use Rattle.std.proofs.lemmas.List.{map-append}
-use Rattle.simplicity.specs.Nodes.{AreUnder, Node, children, Part, Tree, HiddenSide, part_at, part_of, parts, parts_from, count_after, tree_at, tree_of_part, tree_of_node}
-use Rattle.simplicity.specs.Terms as term
+use Rattle.simplicity.specs.Nodes.{AreUnder, Node, children, Part, part_at, part_of, parts, parts_from, count_after, tree_of_node}
 use Rattle.term_core.specs.Nodes.{node_of}
 use Rattle.term_core.specs.declared.node.ListNode.TheVariants as code
 use Rattle.term_core.specs.declared.node.ListNode.{ListNode}
 use Rattle.small_terms.specs.declared.entries.Entry.{Entry}
-use Rattle.small_terms.specs.Emitting.{Adds, found, added, Emits, whole, first, rest, both}
+use Rattle.small_terms.specs.Emitting.{Emits, whole, first, rest, both}
 use Rattle.small_terms.specs.Entries.{AreBelow, entry_node, entry_nodes}
 use Rattle.small_terms.specs.Plan.{Plan, term_of}
-use Rattle.small_terms.proofs.Lists.{get_more, get_next, get_within, get_parts}
-use Rattle.small_terms.proofs.Grown.{IsGrown, grown_on, grown_length, adds_there, adds_grown, emits_grown, emits_within, emits_below}
+use Rattle.small_terms.proofs.Lists.{get_next, get_parts}
+use Rattle.small_terms.proofs.Grown.{IsGrown, grown_on, adds_there, adds_grown, emits_grown, emits_within, emits_below}
 
 -- parts only grow
 parts_grow : (ps : List Part) (w : ℕ) (ns : List Node) → (more : List Part) × (parts_from ps w ns ≡ ps ++ more)

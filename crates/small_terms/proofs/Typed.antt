@@ -1,5 +1,5 @@
 -- Emitted entries have a typing.
-use Rattle.std.proofs.Common.{◌≡◌, ℕ, zero, suc, ◌+◌, ◌-◌, ◌/◌, ◌<◌, ◌≤◌, List, [], ◌∷◌, ◌++◌, length, slice_get, Option, Some, None, refl, sym, ap, ◌∙◌, arith, append_assoc, append-nil, length-append, ◌⊎◌, inl, inr}
+use Rattle.std.proofs.Common.{◌≡◌, ℕ, ◌-◌, ◌/◌, List, [], ◌∷◌, ◌++◌, length, slice_get, Option, Some, None, refl, sym, ap, ◌∙◌, append_assoc, append-nil, length-append, ◌⊎◌, inl, inr}
 use Rattle.std.proofs.lemmas.List.{map-append}
 use Rattle.simplicity.specs.Types.{Kind, Product, word_kind}
 use Rattle.simplicity.specs.Nodes as node
@@ -17,7 +17,6 @@ use Rattle.small_terms.specs.Entries.{entry_node, entry_nodes}
 use Rattle.small_terms.specs.Plan.{Plan, count_of}
 use Rattle.small_terms.specs.Tuples.{bytes_kind}
 use Rattle.small_terms.proofs.ByteKinds.{bytes_pair}
-use Rattle.small_terms.proofs.Grown.{adds_there}
 use Rattle.small_terms.proofs.Lists.{get_more, get_next, get_one_more}
 use Rattle.small_terms.proofs.Ordered.{nodes_get}
 use Rattle.small_terms.proofs.Sized.{Fits}
@@ -94,24 +93,24 @@ adds_typed {one} {new} {entry} {at} ts b by (added none here is) meets =
     let last : Option Arrow = Some (arrow (bytes_kind entry.count) b) in
     let arrow_here : HasArrow (ts ++ Some (arrow (bytes_kind entry.count) b) ∷ []) at (bytes_kind entry.count) b = rw (here, ← by.long) (get_next ts [] (Some (arrow (bytes_kind entry.count) b))) in
     record {
-        typing = ts ++ Some (arrow (bytes_kind entry.count) b) ∷ [];
-        by = rw is (record {
-            typed = rw map-append (entries_next ts (Some (arrow (bytes_kind entry.count) b) ∷ []) (entry_nodes one) ts (entry_node entry) (Some (arrow (bytes_kind entry.count) b)) by.typed (meets_more ts (Some (arrow (bytes_kind entry.count) b) ∷ []) (entry_node entry) (bytes_kind entry.count) b meets));
-            long = rw (length-append, length-append, by.long) refl;
-            sources = λ i e there. source_at i e (get_one_more one entry i e there)
-        });
-        more = Some (arrow (bytes_kind entry.count) b) ∷ [];
-        grown = refl;
-        here = arrow_here
+      typing = ts ++ Some (arrow (bytes_kind entry.count) b) ∷ [];
+      by = rw is (record {
+        typed = rw map-append (entries_next ts (Some (arrow (bytes_kind entry.count) b) ∷ []) (entry_nodes one) ts (entry_node entry) (Some (arrow (bytes_kind entry.count) b)) by.typed (meets_more ts (Some (arrow (bytes_kind entry.count) b) ∷ []) (entry_node entry) (bytes_kind entry.count) b meets));
+        long = rw (length-append, length-append, by.long) refl;
+        sources = λ i e there. source_at i e (get_one_more one entry i e there);
+      });
+      more = Some (arrow (bytes_kind entry.count) b) ∷ [];
+      grown = refl;
+      here = arrow_here;
     }
   where
-  source_at : (i : ℕ) (e : Entry) → (slice_get one i ≡ Some e) ⊎ ((i ≡ length one) × (e ≡ entry)) → (c : Kind) × HasArrow (ts ++ Some (arrow (bytes_kind entry.count) b) ∷ []) i (bytes_kind e.count) c
-  source_at i e (inl old) =
-      let s : (c : Kind) × HasArrow ts i (bytes_kind e.count) c = by.sources i e old in
-      (s.0, get_more ts (Some (arrow (bytes_kind entry.count) b) ∷ []) i _ s.1)
-  source_at i e (inr new) =
-      let n : length ts ≡ i = by.long ∙ sym new.0 in
-      (b, rw (new.1, ← n) (get_next ts [] (Some (arrow (bytes_kind entry.count) b))))
+    source_at : (i : ℕ) (e : Entry) → (slice_get one i ≡ Some e) ⊎ ((i ≡ length one) × (e ≡ entry)) → (c : Kind) × HasArrow (ts ++ Some (arrow (bytes_kind entry.count) b) ∷ []) i (bytes_kind e.count) c
+    source_at i e (inl old) =
+        let s : (c : Kind) × HasArrow ts i (bytes_kind e.count) c = by.sources i e old in
+        (s.0, get_more ts (Some (arrow (bytes_kind entry.count) b) ∷ []) i _ s.1)
+    source_at i e (inr new) =
+        let n : length ts ≡ i = by.long ∙ sym new.0 in
+        (b, rw (new.1, ← n) (get_next ts [] (Some (arrow (bytes_kind entry.count) b))))
 
 -- entries are typed further
 typed_on : (ts us : Typing) (new : List Entry) (at : ℕ) (a b : Kind) → (m : Typing) → us ≡ ts ++ m → IsTypedOn us new at a b → IsTypedOn ts new at a b

@@ -1,5 +1,5 @@
 -- What the list of a small source promises.
-use Rattle.std.specs.Prelude.{◌≡◌, ℕ, ◌^◌, ◌<◌, ◌≤◌, List, [], length, Some}
+use Rattle.std.specs.Prelude.{◌≡◌, ℕ, ◌≤◌, List, [], length, Some}
 use Rattle.simplicity.specs.Nodes.{Node, HasRoot, tree_of}
 use Rattle.simplicity.specs.Shared.{IsCanonical}
 use Rattle.simplicity.specs.Terms.{meaning}

@@ -1,5 +1,5 @@
 -- What a small source gives on bytes, and the names that it doesn't know.
-use Rattle.std.specs.Prelude.{◌≡◌, ℕ, Bool, true, false, List, [], ◌∷◌, length, slice_get, Option, Some, None, bytes_eq, if◌then◌else◌}
+use Rattle.std.specs.Prelude.{ℕ, Bool, true, false, List, ◌∷◌, length, Option, Some, None, bytes_eq, if◌then◌else◌}
 use Rattle.simplicity.specs.Types.{Value, Pair, word_value}
 use Rattle.small_source.specs.Names.{is_among}
 use Rattle.small_source.specs.Small.{SmallBody, Named, Paired}

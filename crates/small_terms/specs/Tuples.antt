@@ -1,6 +1,6 @@
 -- Tuples by halves: none of them is the empty tuple, one is itself, more are the first half, rounded down, beside the rest.
 -- The division is this project's own.
-use Rattle.std.specs.Prelude.{ℕ, zero, suc, ◌+◌, ◌/◌, List, [], ◌∷◌, length, take, drop, map, replicate}
+use Rattle.std.specs.Prelude.{ℕ, zero, suc, ◌/◌, List, [], ◌∷◌, length, take, drop, map, replicate}
 use Rattle.small_source.specs.Small.{SmallBody, Named, Paired}
 use Rattle.simplicity.specs.Types.{Kind, One, Product, Value, UnitValue, Pair, word_kind, word_value}
 

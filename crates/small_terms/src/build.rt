@@ -48,7 +48,11 @@ pub fn build_small(alloc: Global, function: &SmallFunction) -> Result<NodeList, 
 }
 
 /// Adds the nodes of a body.
-fn emit_body(entries: &mut Vec<Entry>, parameters: &[Name], body: &Body) -> Result<usize, BuildRefusal>
+fn emit_body(
+    entries: &mut Vec<Entry>,
+    parameters: &[Name],
+    body: &Body,
+) -> Result<usize, BuildRefusal>
     ensures emitted { IfOk result (λ at. (plan : Plan) → Makes parameters.now (body_of body.now) plan → Emits entries.old.items plan entries.new.items at) }
     ensures known { IfOk result (λ _. first_unknown parameters.now (body_of body.now) ≡ None) }
     ensures unknown { IfErr result (IsUnknown parameters.now (body_of body.now)) }
@@ -57,7 +61,10 @@ fn emit_body(entries: &mut Vec<Entry>, parameters: &[Name], body: &Body) -> Resu
         Body::Named(name, start) => {
             let Some(place) = place_of(parameters, name.as_bytes()) else {
                 let length = name.as_bytes().len();
-                return Err(BuildRefusal::UnknownName { start: *start, length });
+                return Err(BuildRefusal::UnknownName {
+                    start: *start,
+                    length,
+                });
             };
             Ok(emit_path(entries, parameters.len(), place)?)
         }
@@ -115,4 +122,44 @@ fn listed(alloc: Global, entries: &[Entry]) -> Result<NodeList, AllocError>
         nodes.push(entry.node)?;
     }
     Ok(nodes)
+}
+
+#[cfg(test)]
+mod tests {
+    use super::*;
+    use small_source::read_small;
+    use std::test::Fail;
+
+    const THREE: &[u8] = b"fn f(x: u8, y: u8, z: u8) -> (u8, (u8, u8)) { (x, (y, z)) }";
+
+    #[test]
+    fn names_three_parameters(rt: HostRuntime) -> Result<(), Fail> {
+        let function = read_small(rt.alloc(), THREE, b"f")?;
+        let nodes = build_small(rt.alloc(), &function)?;
+        let want = [
+            ListNode::Iden,
+            ListNode::Take(0),
+            ListNode::Take(0),
+            ListNode::Drop(2),
+            ListNode::Drop(0),
+            ListNode::Drop(4),
+            ListNode::Pair(3, 5),
+            ListNode::Pair(1, 6),
+        ];
+        assert_eq!(rt; nodes.as_slice(), want.as_slice());
+        Ok(())
+    }
+
+    #[test]
+    fn refuses_the_first_unknown_name(rt: HostRuntime) -> Result<(), Fail> {
+        let text = b"fn f(x: u8) -> (u8, (u8, u8)) { (x, (one, two)) }";
+        let function = read_small(rt.alloc(), text, b"f")?;
+        let answer = build_small(rt.alloc(), &function).map(|nodes| nodes.len());
+        let want = BuildRefusal::UnknownName {
+            start: 37,
+            length: 3,
+        };
+        assert_eq!(rt; answer, Err(want));
+        Ok(())
+    }
 }

@@ -1,5 +1,5 @@
 -- A node that may follow keeps a list placed.
-use Rattle.std.proofs.Common.{◌≡◌, List, [], ◌∷◌, ◌++◌, map, refl, ap, append_assoc, append-nil}
+use Rattle.std.proofs.Common.{◌≡◌, List, [], ◌∷◌, ◌++◌, refl, ap, append_assoc, append-nil}
 use Rattle.simplicity.specs.Nodes.{Node, CanFollow, PlacedAfter, IsPlaced}
 use Rattle.term_core.specs.Nodes.{node_of, nodes_of}
 use Rattle.term_core.specs.declared.node.ListNode.{ListNode}
