@@ -1,12 +1,15 @@
 -- What writing a composed text makes of the answer.
-use Rattle.std.proofs.Common.{◌≡◌, ◌⊎◌, inl, inr, ℕ, List, [], ◌++◌, Option, Some, None, refl, sym, ap, ◌∙◌, append-nil}
+use Rattle.std.proofs.Common.{◌≡◌, inl, inr, ℕ, List, [], Option, Some, None, Ok, Err, refl, sym, ap, append-nil}
 use Rattle.outside.specs.Files.{Held}
 use Rattle.outside.specs.Sink.{Gained}
 use Rattle.simphl.specs.declared.status.Status.{Status}
 use Rattle.simphl.specs.declared.status.Status.TheVariants.{Done, SourceRefused, WordsRefused, ProgramFailed, ReadFault, WriteFault, NoMemory, BitsRefused, DataRefused, LimitReached}
-use Rattle.simphl.specs.Answer.{SinkState, IsAllowed, outcome, read_fault, no_memory, IsAnswer, IsWritten, IsUnwritten, on_err, on_out, Took}
+use Rattle.simphl.specs.Answer.{SinkState, IsAllowed, outcome, IsAnswer, on_err, on_out, Took}
 use Rattle.simphl.specs.Answered.{IsPut, IsDelivered}
-use Rattle.simphl.specs.Outcome.{IsOutcome}
+use Rattle.hl_syntax.specs.declared.token.Span.{Span}
+use Rattle.simplicityhl.specs.Tokens.{Fault, Lexed, tokens}
+use Rattle.simplicityhl.specs.Tokens as fault
+use Rattle.simphl.specs.Outcome.{IsOutcome, IsSourceOutcome, IsSmallOutcome, IsLexedOutcome, IsFault, source, is_text}
 use Rattle.simphl.specs.Words.{Reading}
 
 gained_nothing : (contents : Option (List ℕ)) → Gained contents contents []
@@ -16,8 +19,23 @@ gained_nothing None = refl
 took_nothing : (sink : SinkState) → Took sink sink []
 took_nothing sink = record { gained = gained_nothing sink.contents; faultless = refl }
 
+no_write_fault : (f : Fault) (span : Span) (out err : List ℕ) → IsFault f span WriteFault out err → ⊥
+no_write_fault fault.bad_character span out err is = let e : WriteFault ≡ SourceRefused = is.0 in cc
+no_write_fault fault.open_comment span out err is = let e : WriteFault ≡ SourceRefused = is.0 in cc
+no_write_fault fault.literal_too_large span out err is = let e : WriteFault ≡ LimitReached = is.0 in cc
+
+no_write_small : {text asked out err : List ℕ} → IsSmallOutcome text asked WriteFault out err → ⊥
+no_write_small s = elim s [ ]
+
+no_write_lexed : (lexed : Lexed) (text asked out err : List ℕ) → IsLexedOutcome lexed (IsSmallOutcome text asked) WriteFault out err → ⊥
+no_write_lexed (Ok found) text asked out err is = no_write_small is
+no_write_lexed (Err r) text asked out err is = no_write_fault r.fault r.span out err is
+
+no_write_source : {text asked out err : List ℕ} → IsSourceOutcome text asked WriteFault out err → ⊥
+no_write_source {text} {asked} {out} {err} (is_text utf8 lexed) = no_write_lexed (tokens text) text asked out err lexed
+
 no_write_outcome : {reading : Reading} {file : Option (List ℕ)} {out err : List ℕ} → IsOutcome reading file WriteFault out err → ⊥
-no_write_outcome o = elim o [ ]
+no_write_outcome (source few s) = no_write_source s
 
 written_answer : (reading : Reading) (held : Held) (before after : ℕ) (status : Status) (o e : List ℕ) (out out' err err' : SinkState) → IsAllowed reading held before after status o e → Took out out' o → Took err err' e → IsAnswer (IsAllowed reading held before after) status out out' err err'
 written_answer reading held before after Done o e out out' err err' allowed a b = record { out_text = o; err_text = e; allowed = allowed; on_out = a; on_err = b }

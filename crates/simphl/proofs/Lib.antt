@@ -1,2 +1,4 @@
 mod Allowed
 mod Answering
+mod Sources
+mod OneOutcome

@@ -4,7 +4,7 @@ use Rattle.outside.specs.Counts.{raised, HasRisen}
 use Rattle.outside.specs.Files.{Held}
 use Rattle.outside.specs.Sink.{Gained, GainedFront}
 use Rattle.simphl.specs.declared.status.Status.{Status}
-use Rattle.simphl.specs.declared.status.Status.TheVariants.{Done, SourceRefused, WordsRefused, ProgramFailed, ReadFault, WriteFault, NoMemory, BitsRefused, DataRefused, LimitReached}
+use Rattle.simphl.specs.declared.status.Status.TheVariants.{Done, ReadFault, WriteFault, NoMemory}
 use Rattle.simphl.specs.Outcome.{IsOutcome}
 use Rattle.simphl.specs.Texts.{read_line, no_memory_line, write_line}
 use Rattle.simphl.specs.Words.{Reading, BuildOf, Misfit}

@@ -1,5 +1,5 @@
 -- The lines that are written, each with its line feed.
-use Rattle.std.specs.Prelude.{ℕ, ◌+◌, List, [], ◌∷◌, ◌++◌, codes}
+use Rattle.std.specs.Prelude.{ℕ, List, [], ◌∷◌, ◌++◌, codes}
 use Rattle.std.specs.Fmt.{decimal}
 
 abbrev pub words_line : ℕ → List ℕ
@@ -8,15 +8,12 @@ words_line index = codes "words at " ++ (decimal index ++ 10 ∷ [])
 abbrev pub read_line : List ℕ → List ℕ
 read_line file = codes "read " ++ (file ++ 10 ∷ [])
 
-abbrev pub limit_line : List ℕ
-limit_line = codes "limit L1\n"
+abbrev pub limit_line : List ℕ → List ℕ
+limit_line limit = codes "limit " ++ (limit ++ 10 ∷ [])
 
-abbrev pub not_yet_line : List ℕ
-not_yet_line = codes "source NotYet at 0..0\n"
-
--- a name that is no parameter, from its first byte to the byte after it
-abbrev pub unknown_line : ℕ → ℕ → List ℕ
-unknown_line start length = codes "source K4 at " ++ (decimal start ++ (codes ".." ++ (decimal (start + length) ++ 10 ∷ [])))
+-- a rule that the source breaks, from a byte up to another
+abbrev pub source_line : List ℕ → ℕ → ℕ → List ℕ
+source_line rule start end = codes "source " ++ (rule ++ (codes " at " ++ (decimal start ++ (codes ".." ++ (decimal end ++ 10 ∷ [])))))
 
 abbrev pub no_memory_line : List ℕ
 no_memory_line = codes "no memory\n"

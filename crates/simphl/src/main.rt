@@ -3,7 +3,10 @@
 
 mod build;
 mod outcome;
+mod source;
 mod status;
+#[cfg(test)]
+mod tests;
 mod texts;
 mod top;
 mod words;

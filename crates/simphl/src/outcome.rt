@@ -1,14 +1,14 @@
 //! What a command answers, before it is written.
 
-ghost use Rattle.std.specs.Prelude.{◌≡◌, ◌≤◌, length, IfOk};
+ghost use Rattle.std.specs.Prelude.{◌≡◌, ◌≤◌, IfOk};
 ghost use Rattle.simphl.specs.Answer.{HasRead};
-ghost use Rattle.simphl.specs.Answered.{IsAllowedAs, IsFaultOutcome, IsSourceOutcome};
-ghost use Rattle.simphl.specs.Outcome.{most_source};
+ghost use Rattle.simphl.specs.Answered.{IsAllowedAs, IsFaultOutcome};
+ghost use Rattle.simphl.specs.Outcome.{OutcomeIsOne};
 ghost use Rattle.simphl.specs.Words.{BuildOf, reading, texts};
 
-use crate::build::{Built, build};
+use crate::source::compose_source;
 use crate::status::Status;
-use crate::texts::{read_text, unknown_text, words_text};
+use crate::texts::{limit_text, read_text, words_text};
 use crate::words::{Asked, read_words};
 use outside::{FileRefusal, Files};
 use std::alloc::{AllocError, Global};
@@ -63,7 +63,7 @@ fn compose_build<F: Files>(
         Err(FileRefusal::Failed) => Ok(compose_fault(alloc, file)?),
         Err(FileRefusal::TooLong) => Ok(Outcome::Refused(
             Status::LimitReached,
-            String::from_str(alloc, "limit L1\n")?,
+            limit_text(alloc, "L1")?,
         )),
         Err(FileRefusal::OutOfMemory) => Err(AllocError),
     }
@@ -77,20 +77,7 @@ fn compose_fault(alloc: Global, file: &str) -> Result<Outcome, AllocError>
     Ok(Outcome::Refused(Status::ReadFault, line))
 }
 
-/// The outcome of building a function from its source.
-fn compose_source(alloc: Global, text: &[u8], function: &[u8]) -> Result<Outcome, AllocError>
-    requires { length text.now ≤ most_source }
-    ensures { IfOk result (IsSourceOutcome text.now function.now) }
-{
-    match build(alloc, text, function)? {
-        Built::Line(line) => Ok(Outcome::Done(line)),
-        Built::UnknownName { start, length } => Ok(Outcome::Refused(
-            Status::SourceRefused,
-            unknown_text(alloc, start, length)?,
-        )),
-        Built::NotSmall => Ok(Outcome::Refused(
-            Status::SourceRefused,
-            String::from_str(alloc, "source NotYet at 0..0\n")?,
-        )),
-    }
-}
+/// The law that an outcome is one: its status, and its text for standard error.
+pub fn one_outcome()
+    ensures { OutcomeIsOne }
+{}

@@ -1,7 +1,7 @@
 //! The lines that are written.
 
-ghost use Rattle.std.specs.Prelude.{◌≡◌, ◌+◌, ◌^◌, ◌<◌, IfOk, string_bytes};
-ghost use Rattle.simphl.specs.Texts.{words_line, read_line, unknown_line};
+ghost use Rattle.std.specs.Prelude.{◌≡◌, IfOk, string_bytes};
+ghost use Rattle.simphl.specs.Texts.{words_line, read_line, limit_line, source_line};
 
 use std::alloc::{AllocError, Global};
 
@@ -19,10 +19,16 @@ pub fn read_text(alloc: Global, file: &str) -> Result<String, AllocError>
     format!(in alloc; "read {file}\n")
 }
 
-/// The line of a name that is no parameter.
-pub fn unknown_text(alloc: Global, start: usize, length: usize) -> Result<String, AllocError>
-    ensures { IfOk result (λ line. string_bytes line ≡ unknown_line start length) }
+/// The line of a limit that is passed, as `L1`.
+pub fn limit_text(alloc: Global, limit: &str) -> Result<String, AllocError>
+    ensures { IfOk result (λ line. string_bytes line ≡ limit_line limit.now) }
 {
-    let end = start as u128 + length as u128;
-    format!(in alloc; "source K4 at {start}..{end}\n")
+    format!(in alloc; "limit {limit}\n")
+}
+
+/// The line of a rule that the source breaks, from the byte at `start` up to that at `end`.
+pub fn source_text(alloc: Global, rule: &str, start: u128, end: u128) -> Result<String, AllocError>
+    ensures { IfOk result (λ line. string_bytes line ≡ source_line rule.now start end) }
+{
+    format!(in alloc; "source {rule} at {start}..{end}\n")
 }

@@ -1,0 +1,57 @@
+#!/usr/bin/env python3
+"""Times `build` on sources of 32, 64, 128 and 256 KiB; outside the gate.
+
+usage: bench/sources.py   (in any folder; the program is proved and built first where it isn't)
+
+Each source is read, cut into tokens and refused, since it isn't a small source. For each size the least of a number
+of runs counts, less the least of the same number of runs on an empty file. Twice the text may take at most 2.3 times
+the time: the exit status is 1 where it takes more.
+"""
+import os
+import subprocess
+import sys
+import tempfile
+import time
+
+ROOT = os.path.join(os.path.dirname(os.path.abspath(__file__)), "..")
+LAUNCHER = os.path.join(ROOT, "simphl")
+PROGRAM = os.path.join(ROOT, "crates", "simphl", "out", "simphl")
+LINE = b"fn name_%05d(left: u64, right: (u32, u8)) -> [bool; 4096] { 0x1234_ABCD } // words and symbols\n"
+RUNS = 40
+
+
+def source(size):
+    text = b"".join(LINE % i for i in range(size // len(LINE % 0)))
+    return text + b" " * (size - len(text))
+
+
+def least(folder, text):
+    path = os.path.join(folder, "source.hl")
+    with open(path, "wb") as file:
+        file.write(text)
+    times = []
+    for _ in range(RUNS):
+        begun = time.perf_counter()
+        answer = subprocess.run([PROGRAM, "build", path, "fn=f"], capture_output=True)
+        times.append(time.perf_counter() - begun)
+        if answer.stderr != b"source NotYet at 0..0\n":
+            sys.exit("unexpected answer: %r" % answer.stderr)
+    return min(times)
+
+
+def main():
+    subprocess.run([LAUNCHER], capture_output=True)
+    with tempfile.TemporaryDirectory() as folder:
+        empty = least(folder, b"")
+        print("empty file: %.1f ms" % (1000 * empty))
+        before, steady = None, True
+        for kib in [32, 64, 128, 256]:
+            taken = least(folder, source(1024 * kib)) - empty
+            ratio = "" if before is None else ", %.2f times the half" % (taken / before)
+            print("%3d KiB: %.2f ms%s" % (kib, 1000 * taken, ratio))
+            steady = steady and (before is None or taken <= 2.3 * before)
+            before = taken
+    sys.exit(0 if steady else 1)
+
+
+main()

@@ -1,0 +1,4 @@
+mod Closers
+mod Decimals
+mod Steps
+mod Words

@@ -1,0 +1,2 @@
+pub mod Lexes
+pub mod Seen

@@ -1,0 +1,5 @@
+use Rattle.simphl.proofs.OneOutcome.{one_outcome}
+use Rattle.simphl.proofs.outcome.one_outcome.Goals as goal
+
+pub returns : goal.returns
+returns c = one_outcome

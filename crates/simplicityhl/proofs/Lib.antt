@@ -1,0 +1,3 @@
+mod Cover
+pub mod Fronts
+mod Rows
