@@ -1,5 +1,5 @@
 #!/usr/bin/env python3
-"""Times `build` on sources of 32, 64, 128 and 256 KiB; outside the gate.
+"""Processor time of `build` on sources of 32, 64, 128 and 256 KiB; outside the gate.
 
 usage: bench/sources.py   (in any folder; the program is proved and built first where it isn't)
 
@@ -8,16 +8,17 @@ of runs counts, less the least of the same number of runs on an empty file. Twic
 the time: the exit status is 1 where it takes more.
 """
 import os
+import resource
 import subprocess
 import sys
 import tempfile
-import time
 
 ROOT = os.path.join(os.path.dirname(os.path.abspath(__file__)), "..")
 LAUNCHER = os.path.join(ROOT, "simphl")
 PROGRAM = os.path.join(ROOT, "crates", "simphl", "out", "simphl")
 LINE = b"fn name_%05d(left: u64, right: (u32, u8)) -> [bool; 4096] { 0x1234_ABCD } // words and symbols\n"
-RUNS = 40
+SIZES = [32, 64, 128, 256]
+RUNS = 100
 
 
 def source(size):
@@ -25,32 +26,38 @@ def source(size):
     return text + b" " * (size - len(text))
 
 
-def least(folder, text):
-    path = os.path.join(folder, "source.hl")
-    with open(path, "wb") as file:
-        file.write(text)
-    times = []
+def processor_time(path):
+    begun = resource.getrusage(resource.RUSAGE_CHILDREN)
+    answer = subprocess.run([PROGRAM, "build", path, "fn=f"], capture_output=True)
+    ended = resource.getrusage(resource.RUSAGE_CHILDREN)
+    if answer.stderr != b"source NotYet at 0..0\n":
+        sys.exit("unexpected answer: %r" % answer.stderr)
+    return ended.ru_utime - begun.ru_utime + ended.ru_stime - begun.ru_stime
+
+
+def least_times(folder):
+    times = {}
+    for kib in [0] + SIZES:
+        with open(os.path.join(folder, "%d.hl" % kib), "wb") as file:
+            file.write(source(1024 * kib))
     for _ in range(RUNS):
-        begun = time.perf_counter()
-        answer = subprocess.run([PROGRAM, "build", path, "fn=f"], capture_output=True)
-        times.append(time.perf_counter() - begun)
-        if answer.stderr != b"source NotYet at 0..0\n":
-            sys.exit("unexpected answer: %r" % answer.stderr)
-    return min(times)
+        for kib in [0] + SIZES:
+            times.setdefault(kib, []).append(processor_time(os.path.join(folder, "%d.hl" % kib)))
+    return {kib: min(taken) for kib, taken in times.items()}
 
 
 def main():
     subprocess.run([LAUNCHER], capture_output=True)
     with tempfile.TemporaryDirectory() as folder:
-        empty = least(folder, b"")
-        print("empty file: %.1f ms" % (1000 * empty))
-        before, steady = None, True
-        for kib in [32, 64, 128, 256]:
-            taken = least(folder, source(1024 * kib)) - empty
-            ratio = "" if before is None else ", %.2f times the half" % (taken / before)
-            print("%3d KiB: %.2f ms%s" % (kib, 1000 * taken, ratio))
-            steady = steady and (before is None or taken <= 2.3 * before)
-            before = taken
+        times = least_times(folder)
+    print("empty file: %.2f ms" % (1000 * times[0]))
+    before, steady = None, True
+    for kib in SIZES:
+        taken = times[kib] - times[0]
+        ratio = "" if before is None else ", %.2f times the half" % (taken / before)
+        print("%3d KiB: %.2f ms%s" % (kib, 1000 * taken, ratio))
+        steady = steady and (before is None or taken <= 2.3 * before)
+        before = taken
     sys.exit(0 if steady else 1)
 
 
