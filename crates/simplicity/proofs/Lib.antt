@@ -18,5 +18,6 @@ pub mod Meaning
 pub mod Unfold
 pub mod Trees
 pub mod Bits
+pub mod Tuples
 pub mod Spell
 mod More

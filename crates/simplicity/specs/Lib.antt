@@ -1,4 +1,6 @@
 pub mod Types
+pub mod Widths
+pub mod Tuples
 pub mod Cells
 pub mod Terms
 pub mod Nodes

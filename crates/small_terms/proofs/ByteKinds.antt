@@ -1,16 +1,9 @@
 -- Types of tuples of bytes: how they divide, and that their sizes tell them apart.
 use Rattle.std.proofs.Common.{◌≡◌, ℕ, zero, suc, ◌+◌, ◌-◌, ◌*◌, ◌/◌, ◌<◌, ◌≤◌, List, [], ◌∷◌, length, take, drop, replicate, refl, ap, ◌∙◌, arith, length-take, length-drop}
-use Rattle.std.proofs.lemmas.List.{length-replicate, take-replicate, drop-replicate}
 use Rattle.simplicity.specs.Types.{Kind, One, Product, size, word_kind}
-use Rattle.small_terms.specs.Tuples.{halves, tuple_kind, bytes_kind}
-use Rattle.small_terms.proofs.Paths.{halves_pair}
-
-copies_pair : (n : ℕ) (k : Kind) → 1 < n → tuple_kind (replicate n k) ≡ Product (tuple_kind (replicate (n / 2) k)) (tuple_kind (replicate (n - n / 2) k))
-copies_pair n k some =
-    let long : length (replicate n k) ≡ n = length-replicate n k in
-    let front : take (length (replicate n k) / 2) (replicate n k) ≡ replicate (n / 2) k = rw long (take-replicate (n / 2) n k (omega arith)) in
-    let back : drop (length (replicate n k) / 2) (replicate n k) ≡ replicate (n - n / 2) k = rw long (drop-replicate (n / 2) n k) in
-    halves_pair One Product (replicate n k) (omega (arith, long)) ∙ cc (ap tuple_kind front, ap tuple_kind back)
+use Rattle.simplicity.specs.Tuples.{halves}
+use Rattle.simplicity.proofs.Tuples.{copies_pair}
+use Rattle.small_terms.specs.Tuples.{bytes_kind}
 
 -- more than one byte are those of the first half beside the rest
 pub bytes_pair : (n : ℕ) → 1 < n → bytes_kind n ≡ Product (bytes_kind (n / 2)) (bytes_kind (n - n / 2))

@@ -1,38 +1,11 @@
 -- A plan that picks a byte gives its value on the tuple, and each place has such a plan.
 use Rattle.std.proofs.Common.{◌≡◌, ℕ, zero, suc, ◌+◌, ◌-◌, ◌/◌, ◌<◌, ◌≤◌, List, [], ◌∷◌, length, take, drop, slice_get, Some, refl, sym, ap, ◌∙◌, arith, length-take, length-drop, Bool, true, false, nat_lt}
 use Rattle.std.proofs.lemmas.Bool.Decides.{nat_tests}
-use Rattle.simplicity.specs.Types.{Value, UnitValue, Pair}
+use Rattle.simplicity.specs.Types.{Value}
 use Rattle.simplicity.specs.Terms.{meaning}
 use Rattle.small_terms.specs.Plan.{Plan, Whole, First, Rest, Picks, whole, first, rest, term_of, count_of}
-use Rattle.small_terms.specs.Tuples.{halves, tuple_value}
-
--- turns past the length change nothing
-halves_turns : {A : Type 0} (e : A) (f : A → A → A) (s t : ℕ) (xs : List A) → length xs ≤ s → length xs ≤ t → halves s e f xs ≡ halves t e f xs
-halves_turns e f s t [] few few' = refl
-halves_turns e f s t (x ∷ []) few few' = refl
-halves_turns e f zero t (x ∷ y ∷ more) few few' = absurd (omega arith)
-halves_turns e f (suc s) zero (x ∷ y ∷ more) few few' = absurd (omega arith)
-halves_turns {A} e f (suc s) (suc t) (x ∷ y ∷ more) few few' =
-    let n : ℕ = length (x ∷ y ∷ more) in
-    let front : length (take (length (x ∷ y ∷ more) / 2) (x ∷ y ∷ more)) < length (x ∷ y ∷ more) = omega (arith, length-take (length (x ∷ y ∷ more) / 2) (x ∷ y ∷ more)) in
-    let back : length (drop (length (x ∷ y ∷ more) / 2) (x ∷ y ∷ more)) < length (x ∷ y ∷ more) = omega (arith, length-drop (length (x ∷ y ∷ more) / 2) (x ∷ y ∷ more)) in
-    cc (halves_turns e f s t (take (length (x ∷ y ∷ more) / 2) (x ∷ y ∷ more)) (omega arith) (omega arith), halves_turns e f s t (drop (length (x ∷ y ∷ more) / 2) (x ∷ y ∷ more)) (omega arith) (omega arith))
-
--- more than one are joined of two halves
-pub halves_pair : {A : Type 0} (e : A) (f : A → A → A) (xs : List A) → 1 < length xs → halves (length xs) e f xs ≡ f (halves (length (take (length xs / 2) xs)) e f (take (length xs / 2) xs)) (halves (length (drop (length xs / 2) xs)) e f (drop (length xs / 2) xs))
-halves_pair e f [] some = absurd (omega arith)
-halves_pair e f (x ∷ []) some = absurd (omega arith)
-halves_pair e f (x ∷ y ∷ more) some =
-    let front : length (take (length (x ∷ y ∷ more) / 2) (x ∷ y ∷ more)) < length (x ∷ y ∷ more) = omega (arith, length-take (length (x ∷ y ∷ more) / 2) (x ∷ y ∷ more)) in
-    let back : length (drop (length (x ∷ y ∷ more) / 2) (x ∷ y ∷ more)) < length (x ∷ y ∷ more) = omega (arith, length-drop (length (x ∷ y ∷ more) / 2) (x ∷ y ∷ more)) in
-    cc (
-      halves_turns e f (suc (length more)) (length (take (length (x ∷ y ∷ more) / 2) (x ∷ y ∷ more))) (take (length (x ∷ y ∷ more) / 2) (x ∷ y ∷ more)) (omega arith) (omega arith),
-      halves_turns e f (suc (length more)) (length (drop (length (x ∷ y ∷ more) / 2) (x ∷ y ∷ more))) (drop (length (x ∷ y ∷ more) / 2) (x ∷ y ∷ more)) (omega arith) (omega arith),
-    )
-
--- more than one value are a pair of two tuples
-pub tuple_pair : (vs : List Value) → 1 < length vs → tuple_value vs ≡ Pair (tuple_value (take (length vs / 2) vs)) (tuple_value (drop (length vs / 2) vs))
-tuple_pair vs some = halves_pair UnitValue Pair vs some
+use Rattle.simplicity.specs.Tuples.{tuple_value}
+use Rattle.simplicity.proofs.Tuples.{tuple_pair}
 
 get_take : {X : Type 0} (xs : List X) (n i : ℕ) (x : X) → slice_get xs i ≡ Some x → i < n → slice_get (take n xs) i ≡ Some x
 get_take [] n i x there less = cc

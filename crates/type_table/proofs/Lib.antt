@@ -1,0 +1,4 @@
+pub mod Growth
+mod Tables
+mod Stacks
+pub mod Words

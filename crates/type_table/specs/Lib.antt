@@ -1,0 +1,4 @@
+pub mod Kinds
+pub mod Code
+pub mod Rows
+pub mod Steps

@@ -1,0 +1,11 @@
+//! Core types by number: a table in which equal types have equal ids.
+#![tactic(auto)]
+
+mod shape;
+mod table;
+#[cfg(test)]
+mod tests;
+mod tree;
+
+pub use shape::{Shape, TypeId};
+pub use table::TypeTable;
