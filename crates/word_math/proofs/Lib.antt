@@ -1,0 +1,5 @@
+pub mod Fits
+pub mod Moved
+pub mod Listed
+pub mod Called
+pub mod Halved

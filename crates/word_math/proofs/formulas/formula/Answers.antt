@@ -1,0 +1,5 @@
+use Rattle.word_math.proofs.Listed.{sized}
+use Rattle.word_math.proofs.formulas.formula.Goals as goal
+
+pub answered-requires-clause-sized : goal.answered-requires-clause-sized
+answered-requires-clause-sized c = sized _ _ _ c.requires.jet
