@@ -1,3 +1,4 @@
 mod Cover
 pub mod Fronts
 mod Rows
+mod RowKinds
