@@ -1,3 +1,7 @@
 pub mod Cover
+pub mod Grammar
+pub mod Kinds
 pub mod Laws
+pub mod Parts
 pub mod Tokens
+pub mod Written

@@ -2,7 +2,11 @@
 //! function below has no body, and its contract is a law.
 #![tactic(auto)]
 
+mod alternatives;
+
 ghost use Rattle.simplicityhl.specs.Laws.{TokensCover, SpansRise};
+
+pub use alternatives::{ExprAlternative, PatternAlternative, SideAlternative, TypeAlternative};
 
 /// The tokens of a text cover it: what lies around them is white space and comments.
 pub fn tokens_cover_law()

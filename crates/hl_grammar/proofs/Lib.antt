@@ -1,0 +1,9 @@
+pub mod Exact
+pub mod Exprs
+pub mod Lists
+pub mod Patterns
+pub mod Programs
+pub mod Starts
+pub mod Tokens
+pub mod Types
+pub mod Whole

@@ -1,0 +1,4 @@
+mod Alone
+mod Depth
+mod Parsed
+mod Turns
