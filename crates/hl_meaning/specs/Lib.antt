@@ -1,0 +1,7 @@
+pub mod Literals
+pub mod Values
+pub mod Answer
+pub mod Scopes
+pub mod Jets
+pub mod Loops
+pub mod Mean
