@@ -1,12 +1,12 @@
 -- What a call of a jet gives over source values.
-use Rattle.std.specs.Prelude.{ℕ, Bool, true, false, nat_eq, List, [], ◌∷◌, bytes_eq, find, Option, Some, None, option_map, if◌then◌else◌, not}
+use Rattle.std.specs.Prelude.{ℕ, nat_eq, List, [], ◌∷◌, bytes_eq, find, Option, Some, None, if◌then◌else◌, not}
 use Rattle.hl_data.specs.declared.value.HlValue.{HlValue}
 use Rattle.hl_data.specs.declared.value.HlValue.TheOpen.{HlValue-F}
 use Rattle.hl_data.specs.declared.value.HlValue.TheVariants as value
 use Rattle.hl_data.specs.declared.value.HlValue.TheViews.{out-HlValue}
 use Rattle.jets.specs.Formula.{bit, numbers}
 use Rattle.jets.specs.Jet.{Kind, Truth, Number, Row, rows}
-use Rattle.hl_meaning.specs.Answer.{Answer, gives, fails, stuck, shaped}
+use Rattle.hl_meaning.specs.Answer.{Answer, gives, fails, shaped}
 use Rattle.hl_meaning.specs.Values.{beside, is_number_of, word_of}
 
 -- a value as a number of its type; a truth value is 0 or 1

@@ -4,7 +4,7 @@ use Rattle.hl_data.specs.declared.value.HlValue.{HlValue}
 use Rattle.hl_data.specs.declared.value.HlValue.TheOpen.{HlValue-F}
 use Rattle.hl_data.specs.declared.value.HlValue.TheVariants as value
 use Rattle.hl_data.specs.declared.value.HlValue.TheViews.{out-HlValue}
-use Rattle.hl_meaning.specs.Answer.{Answer, gives, fails, stuck, and_then}
+use Rattle.hl_meaning.specs.Answer.{Answer, gives, stuck, and_then}
 use Rattle.hl_meaning.specs.Values.{word_of}
 
 -- a function of a program: what it gives for its arguments

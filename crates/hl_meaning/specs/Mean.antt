@@ -2,10 +2,10 @@
 --
 -- The parts of an expression are evaluated from the left. A match evaluates the arm of its value alone. If a part that is evaluated
 -- fails, the whole fails. A function's body sees the functions before it and its parameters.
-use Rattle.std.specs.Prelude.{ℕ, ◌^◌, Bool, true, false, List, [], ◌∷◌, ◌++◌, length, bytes_eq, find, fold, Option, Some, None, option_map, option_and_then}
+use Rattle.std.specs.Prelude.{ℕ, ◌^◌, true, false, List, [], ◌∷◌, ◌++◌, bytes_eq, find, fold, Option, Some, None, option_map, option_and_then}
 use Rattle.hl_data.specs.declared.typed.TypedExpr.{TypedExpr}
 use Rattle.hl_data.specs.declared.typed.TypedForm.TheFolds.{fold-TypedExpr}
-use Rattle.hl_data.specs.declared.typed.TypedForm.TheOpen.{TypedForm-F, TypedStatement-F, TypedArm-F, TypedExpr-F}
+use Rattle.hl_data.specs.declared.typed.TypedForm.TheOpen.{TypedForm-F, TypedStatement-F}
 use Rattle.hl_data.specs.declared.typed.TypedFunction.{TypedFunction}
 use Rattle.hl_data.specs.declared.typed.TypedSide.{TypedSide}
 use Rattle.hl_data.specs.declared.typed.TypedSide.TheVariants as sides
@@ -17,13 +17,12 @@ use Rattle.hl_syntax.specs.declared.kinds.HlType.{HlType}
 use Rattle.hl_syntax.specs.declared.kinds.HlType.TheOpen.{HlType-F}
 use Rattle.hl_syntax.specs.declared.kinds.HlType.TheViews.{out-HlType}
 use Rattle.hl_syntax.specs.declared.kinds.TypedName.{TypedName}
-use Rattle.hl_syntax.specs.declared.tree.Pattern.{Pattern}
-use Rattle.hl_meaning.specs.Answer.{Answer, gives, fails, stuck, and_then, shaped, known, in_turn}
+use Rattle.hl_meaning.specs.Answer.{Answer, gives, fails, stuck, and_then, shaped, known}
 use Rattle.hl_meaning.specs.Jets.{jet_answer}
 use Rattle.hl_meaning.specs.Literals.{literal_value}
 use Rattle.hl_meaning.specs.Loops.{Calls, folded, counted}
 use Rattle.hl_meaning.specs.Scopes.{Binding, Scope, meant, bound}
-use Rattle.hl_meaning.specs.Values.{beside, encoded, decoded, word_of}
+use Rattle.hl_meaning.specs.Values.{encoded, decoded, word_of}
 
 -- a function by its name: its parameters, and what it gives for their values
 pub record Function : Type 0 where
