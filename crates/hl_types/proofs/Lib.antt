@@ -1,2 +1,5 @@
+mod Decimals
+mod Found
 pub mod Halves
 pub mod Parts
+mod Walked
