@@ -1,5 +1,5 @@
 -- What holds of each holds of the first that is found.
-use Rattle.std.proofs.Common.{ℕ, suc, ◌<◌, Bool, true, false, cond, List, [], ◌∷◌, length, arith}
+use Rattle.std.proofs.Common.{suc, ◌<◌, Bool, true, false, cond, List, [], ◌∷◌, length, arith}
 use Rattle.std.specs.Prelude.{Some, IfSome, find}
 use Rattle.std.specs.List.{All}
 
@@ -8,6 +8,6 @@ found_holds P p [] h = tt
 found_holds P p (x ∷ xs) h =
     let first : 0 < suc (length xs) = omega arith in
     elim (p x) as (λ b. IfSome (cond b (Some x) (find p xs)) P) [
-      true ↦ h 0 x first
-    | false ↦ found_holds P p xs (λ k d less. h (suc k) d (omega arith))
+      | true ↦ h 0 x first
+      | false ↦ found_holds P p xs (λ k d less. h (suc k) d (omega arith))
     ]

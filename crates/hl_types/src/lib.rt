@@ -1,4 +1,4 @@
-//! Types of the source language: their forms.
+//! Types of the source language: what written types stand for, and the forms of types.
 #![tactic(auto)]
 
 mod copies;
@@ -7,13 +7,12 @@ mod forms;
 mod kinds;
 mod names;
 mod refusal;
-
 #[cfg(test)]
 mod tests;
 mod written;
 
-pub use hl_syntax::{Aliases, HlType, HlTypes, TypedName, Wanted};
 pub use copies::copy_type;
+pub use hl_syntax::{Aliases, HlType, HlTypes, TypedName, Wanted};
 pub use kinds::structure;
 pub use refusal::TypeRefusal;
 pub use written::resolve;

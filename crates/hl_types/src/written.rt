@@ -54,11 +54,7 @@ fn resolve_name(
 /// for a count past 65,536 and L5 for a type whose form has more than 4,194,304 nodes; and
 /// `OutOfMemory`.
 #[cycle(resolve)]
-pub fn resolve(
-    alloc: Global,
-    text: &TypeText,
-    aliases: &Aliases,
-) -> Result<HlType, TypeRefusal>
+pub fn resolve(alloc: Global, text: &TypeText, aliases: &Aliases) -> Result<HlType, TypeRefusal>
     requires { AreSound aliases.now }
     ensures answers { Answers (walk aliases.now text.now) result }
     ensures sound { IfOk result IsSound }

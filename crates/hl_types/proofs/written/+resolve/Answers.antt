@@ -14,6 +14,6 @@ resolve_parts-parts-preserved t c =
     let kind = c.in_ok-kind.kind in
     record {
       found = rw c.in_ok-push.ensures.ok (part_found c.args.aliases.now c.as_slice-text-items.result.now c.parts.text-index c.text-item.result c.parts.kinds kind
-      (in_turn (map (walk c.args.aliases.now) c.args.texts.now)) c.parts-test.true c.text-item.is c.in_ok-kind.ensures.answers c.parts.invariant.found);
+          (in_turn (map (walk c.args.aliases.now) c.args.texts.now)) c.parts-test.true c.text-item.is c.in_ok-kind.ensures.answers c.parts.invariant.found);
       sound = rw c.in_ok-push.ensures.ok (All-append IsSound c.parts.kinds (kind ∷ []) c.parts.invariant.sound (one_sound kind c.in_ok-kind.ensures.sound));
     }
