@@ -1,11 +1,10 @@
 -- Where a placed list's children stand, and the bits of one node more.
-use Rattle.std.proofs.Common.{◌≡◌, ℕ, zero, suc, ◌+◌, ◌<◌, List, [], ◌∷◌, ◌++◌, length, take, get_or, Bool, Some, None, slice_get, refl, ap, arith, append_assoc, append-nil, length-append, add-one, length-take, Option, IsSome}
+use Rattle.std.proofs.Common.{◌≡◌, ℕ, zero, suc, ◌+◌, ◌<◌, List, [], ◌∷◌, ◌++◌, length, take, get_or, Bool, Some, None, slice_get, refl, ap, sym, ◌∙◌, subst, arith, append_assoc, append-nil, length-append, add-one, length-take, Option, IsSome}
 use Rattle.simplicity.specs.Nodes as node
 use Rattle.simplicity.specs.Nodes.{Node, CanFollow, PlacedAfter, IsPlaced, IsShown, AreCaseSides, AreUnder, children}
 use Rattle.simplicity.specs.Spelling.{node_bits, nodes_bits}
 use Rattle.term_core.specs.Nodes.{node_of, nodes_of}
-use Rattle.term_core.specs.declared.node.ListNode.{ListNode}
-use Rattle.term_core.specs.declared.node.ListNode.TheVariants as code
+use Rattle.term_core.specs.declared.list_node.ListNode.{ListNode}
 
 shown_within : (ns : List Node) (i : ℕ) → IsShown (slice_get ns i) → i < length ns
 shown_within [] i shown = absurd shown
@@ -40,18 +39,20 @@ follows_children ns (node.Fail b) h = tt
 follows_children ns node.Witness h = tt
 follows_children ns (node.Word k n) h = tt
 
-children_after : (before : List Node) (raw : List ListNode) (i : ℕ) → PlacedAfter before (nodes_of raw) → i < length raw → AreUnder (length before + i) (children (node_of (get_or raw i code.Iden)))
-children_after before [] i placed within = absurd (omega arith)
-children_after before (m ∷ raw) zero placed within = let e : length before + 0 ≡ length before = omega arith in rw e (follows_children before (node_of m) placed.0)
-children_after before (m ∷ raw) (suc i) placed within =
+children_after : (before : List Node) (raw : List ListNode) (i : ℕ) (d : ListNode) → PlacedAfter before (nodes_of raw) → i < length raw → AreUnder (length before + i) (children (node_of (get_or raw i d)))
+children_after before [] i d placed within = absurd (omega arith)
+children_after before (m ∷ raw) zero d placed within = let e : length before + 0 ≡ length before = omega arith in rw e (follows_children before (node_of m) placed.0)
+children_after before (m ∷ raw) (suc i) d placed within =
     let e : length (before ++ node_of m ∷ []) + i ≡ length before + suc i = omega (arith, length-append before (node_of m ∷ [])) in
-    rw e at (children_after (before ++ node_of m ∷ []) raw i placed.1 (omega arith))
+    rw e at (children_after (before ++ node_of m ∷ []) raw i d placed.1 (omega arith))
 
 -- in a placed list the children of the node at a place stand before it
-pub children_placed : (raw : List ListNode) (ns : List Node) (i : ℕ) → nodes_of raw ≡ ns → IsPlaced ns → i < length raw → AreUnder i (children (node_of (get_or raw i code.Iden)))
-children_placed raw ns i is placed within =
+pub children_placed : (raw : List ListNode) (ns : List Node) (i : ℕ) (n : ListNode) → n ≡ get_or raw i n → nodes_of raw ≡ ns → IsPlaced ns → i < length raw → AreUnder i (children (node_of n))
+children_placed raw ns i n there is placed within =
     let e : 0 + i ≡ i = omega arith in
-    rw e at (children_after [] raw i (rw is placed) within)
+    let at : AreUnder i (children (node_of (get_or raw i n))) = rw e at (children_after [] raw i n (rw is placed) within) in
+    let P : ListNode → Type 0 = λ m. AreUnder i (children (node_of m)) in
+    subst P (sym there) at
 
 nodes_bits-append : (k : ℕ) (xs ys : List Node) → nodes_bits k (xs ++ ys) ≡ nodes_bits k xs ++ nodes_bits (k + length xs) ys
 nodes_bits-append k [] ys = let e : k + 0 ≡ k = omega arith in rw e refl
@@ -63,14 +64,16 @@ length-nodes : (raw : List ListNode) → length (nodes_of raw) ≡ length raw
 length-nodes [] = refl
 length-nodes (m ∷ raw) = ap suc (length-nodes raw)
 
-take-nodes : (raw : List ListNode) (i : ℕ) → i < length raw → take (suc i) (nodes_of raw) ≡ take i (nodes_of raw) ++ node_of (get_or raw i code.Iden) ∷ []
-take-nodes [] i within = absurd (omega arith)
-take-nodes (m ∷ raw) zero within = refl
-take-nodes (m ∷ raw) (suc i) within = ap (λ rest. node_of m ∷ rest) (take-nodes raw i (omega arith))
+take-nodes : (raw : List ListNode) (i : ℕ) (d : ListNode) → i < length raw → take (suc i) (nodes_of raw) ≡ take i (nodes_of raw) ++ node_of (get_or raw i d) ∷ []
+take-nodes [] i d within = absurd (omega arith)
+take-nodes (m ∷ raw) zero d within = refl
+take-nodes (m ∷ raw) (suc i) d within = ap (λ rest. node_of m ∷ rest) (take-nodes raw i d (omega arith))
 
 -- the bits of the nodes up to a place, and of one node more
-pub written_next : (raw : List ListNode) (ns : List Node) (i : ℕ) (start old new : List Bool) → nodes_of raw ≡ ns → i < length raw → old ≡ start ++ nodes_bits 0 (take i ns) → new ≡ old ++ node_bits i (node_of (get_or raw i code.Iden)) → new ≡ start ++ nodes_bits 0 (take (i + 1) ns)
-written_next raw ns i start old new is within before after =
+pub written_next : (raw : List ListNode) (ns : List Node) (i : ℕ) (n : ListNode) (start old new : List Bool) → n ≡ get_or raw i n → nodes_of raw ≡ ns → i < length raw → old ≡ start ++ nodes_bits 0 (take i ns) → new ≡ old ++ node_bits i (node_of n) → new ≡ start ++ nodes_bits 0 (take (i + 1) ns)
+written_next raw ns i n start old new there is within before after =
     let few : length (take i (nodes_of raw)) ≡ i = omega (arith, length-take i (nodes_of raw), length-nodes raw) in
     let none : 0 + i ≡ i = omega arith in
-    rw (after, before, ← is, add-one, take-nodes raw i within, nodes_bits-append 0 (take i (nodes_of raw)) (node_of (get_or raw i code.Iden) ∷ []), few, none) (simp (append_assoc, append-nil))
+    let last : take (suc i) (nodes_of raw) ≡ take i (nodes_of raw) ++ node_of n ∷ [] =
+    take-nodes raw i n within ∙ ap (λ m. take i (nodes_of raw) ++ node_of m ∷ []) (sym there) in
+    rw (after, before, ← is, add-one, last, nodes_bits-append 0 (take i (nodes_of raw)) (node_of n ∷ []), few, none) (simp (append_assoc, append-nil))

@@ -8,9 +8,9 @@ use Rattle.simplicity.specs.Shared.{IsShared}
 use Rattle.simplicity.specs.Typing.{Typing, HasArrow, IsTyping}
 use Rattle.simplicity.proofs.Inversion.{take_meets, take_part, drop_meets, drop_part, pair_meets, pair_parts}
 use Rattle.simplicity.proofs.Typings.{meets_at}
-use Rattle.term_core.specs.Nodes.{node_of}
-use Rattle.term_core.specs.declared.node.ListNode.{ListNode}
-use Rattle.term_core.specs.declared.node.ListNode.TheVariants as code
+use Rattle.small_terms.specs.Kinds.{node_of}
+use Rattle.small_terms.specs.declared.entries.SmallNode.{SmallNode}
+use Rattle.small_terms.specs.declared.entries.SmallNode.TheVariants as code
 use Rattle.small_terms.specs.declared.entries.Entry.{Entry}
 use Rattle.small_terms.specs.Emitting.{Adds, found, added, Emits, whole, first, rest, both}
 use Rattle.small_terms.specs.Entries.{AreBelow, entry_node, entry_nodes}
@@ -139,7 +139,7 @@ emits_distinct distinct (both p q a) = adds_distinct (emits_distinct (emits_dist
 pub none_distinct : AreDistinct []
 none_distinct = record { apart = λ i j e p q. cc }
 
-same_node : (m n : ListNode) → node_of m ≡ node_of n → m ≡ n
+same_node : (m n : SmallNode) → node_of m ≡ node_of n → m ≡ n
 same_node code.Iden code.Iden e = refl
 same_node code.Iden (code.Take j) e = cc
 same_node code.Iden (code.Drop j) e = cc
@@ -159,7 +159,7 @@ same_node (code.Pair h i) (code.Pair j k) e = cc
 
 same_entry : (d e : Entry) → d.node ≡ e.node → d.count ≡ e.count → d ≡ e
 same_entry d e p q =
-    let by_node : (n : ListNode) → Entry = λ n. record { node = n; count = d.count } in
+    let by_node : (n : SmallNode) → Entry = λ n. record { node = n; count = d.count } in
     let by_count : (c : ℕ) → Entry = λ c. record { node = e.node; count = c } in
     ap by_node p ∙ ap by_count q
 

@@ -1,7 +1,7 @@
 -- What the code emits, for the plan that there is.
 use Rattle.std.proofs.Common.{◌≡◌, ℕ, ◌-◌, ◌/◌, ◌<◌, ◌≤◌, Bool, true, false, List, length, slice_get, Some, None, refl, arith, nat_lt}
 use Rattle.std.proofs.lemmas.Bool.Decides.{nat_tests}
-use Rattle.term_core.specs.declared.node.ListNode.TheVariants as code
+use Rattle.small_terms.specs.declared.entries.SmallNode.TheVariants as code
 use Rattle.small_source.specs.Small.{SmallBody, Named, Paired}
 use Rattle.small_terms.specs.declared.entries.Entry.{Entry}
 use Rattle.small_terms.specs.Emitting.{Adds, Emits, whole, first, rest, both}

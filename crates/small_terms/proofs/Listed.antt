@@ -2,13 +2,13 @@
 use Rattle.std.proofs.Common.{◌≡◌, ℕ, zero, suc, ◌<◌, ◌≤◌, List, [], ◌∷◌, length, take, get_or, slice_get, Some, arith}
 use Rattle.std.proofs.lemmas.Option.{slice_get-get_or}
 use Rattle.simplicity.specs.Nodes.{AreUnder, Node, IsShown, CanFollow, children}
-use Rattle.term_core.specs.Nodes.{node_of}
-use Rattle.term_core.specs.declared.node.ListNode.TheVariants as code
-use Rattle.term_core.specs.declared.node.ListNode.{ListNode}
+use Rattle.small_terms.specs.Kinds.{node_of}
+use Rattle.small_terms.specs.declared.entries.SmallNode.TheVariants as code
+use Rattle.small_terms.specs.declared.entries.SmallNode.{SmallNode}
 use Rattle.small_terms.specs.declared.entries.Entry.{Entry}
 use Rattle.small_terms.specs.Entries.{AreBelow, entry_nodes}
 
-pub shown_node : (n : ListNode) → IsShown (Some (node_of n))
+pub shown_node : (n : SmallNode) → IsShown (Some (node_of n))
 shown_node code.Iden = tt
 shown_node (code.Take i) = tt
 shown_node (code.Drop i) = tt
@@ -20,7 +20,7 @@ shown (e ∷ es) zero i less within = absurd (omega arith)
 shown (e ∷ es) (suc n) zero less within = shown_node e.node
 shown (e ∷ es) (suc n) (suc i) less within = shown es n i (omega arith) (omega arith)
 
-follows : (es : List Entry) (at : ℕ) (n : ListNode) → at ≤ length es → AreUnder at (children (node_of n)) → CanFollow (entry_nodes (take at es)) (node_of n)
+follows : (es : List Entry) (at : ℕ) (n : SmallNode) → at ≤ length es → AreUnder at (children (node_of n)) → CanFollow (entry_nodes (take at es)) (node_of n)
 follows es at code.Iden within below = tt
 follows es at (code.Take i) within below = shown es at i below.0 within
 follows es at (code.Drop i) within below = shown es at i below.0 within

@@ -3,7 +3,7 @@ use Rattle.std.proofs.Common.{◌≡◌, ℕ, zero, suc, ◌<◌, ◌≤◌, Lis
 use Rattle.std.proofs.lemmas.List.{map-append}
 use Rattle.simplicity.specs.Nodes.{AreUnder, Node, children}
 use Rattle.simplicity.specs.Order.{over, ended, children_at}
-use Rattle.term_core.specs.declared.node.ListNode.TheVariants as code
+use Rattle.small_terms.specs.declared.entries.SmallNode.TheVariants as code
 use Rattle.small_terms.specs.declared.entries.Entry.{Entry}
 use Rattle.small_terms.specs.Emitting.{Adds, found, added, Emits, whole, first, rest, both}
 use Rattle.small_terms.specs.Entries.{AreBelow, entry_node, entry_nodes}

@@ -2,9 +2,9 @@
 use Rattle.std.proofs.Common.{◌≡◌, ℕ, zero, suc, ◌+◌, ◌<◌, List, [], ◌∷◌, ◌++◌, length, slice_get, Some, refl, sym, ap, ◌∙◌, arith, length-append, append_assoc, append-nil}
 use Rattle.std.proofs.lemmas.List.{map-append}
 use Rattle.simplicity.specs.Nodes.{AreUnder, Node, children, Part, part_at, part_of, parts, parts_from, count_after, tree_of_node}
-use Rattle.term_core.specs.Nodes.{node_of}
-use Rattle.term_core.specs.declared.node.ListNode.TheVariants as code
-use Rattle.term_core.specs.declared.node.ListNode.{ListNode}
+use Rattle.small_terms.specs.Kinds.{node_of}
+use Rattle.small_terms.specs.declared.entries.SmallNode.TheVariants as code
+use Rattle.small_terms.specs.declared.entries.SmallNode.{SmallNode}
 use Rattle.small_terms.specs.declared.entries.Entry.{Entry}
 use Rattle.small_terms.specs.Emitting.{Emits, whole, first, rest, both}
 use Rattle.small_terms.specs.Entries.{AreBelow, entry_node, entry_nodes}
@@ -33,7 +33,7 @@ part_at_more (p ∷ ps) more zero less = refl
 part_at_more (p ∷ ps) more (suc i) less = part_at_more ps more i (omega arith)
 
 -- the nodes of these entries take no witness, so their parts don't depend on how many stand before
-part_same : (ps qs : List Part) (v w at : ℕ) (n : ListNode) → AreUnder at (children (node_of n)) → ((i : ℕ) → i < at → part_at ps i ≡ part_at qs i) → part_of ps v (node_of n) ≡ part_of qs w (node_of n)
+part_same : (ps qs : List Part) (v w at : ℕ) (n : SmallNode) → AreUnder at (children (node_of n)) → ((i : ℕ) → i < at → part_at ps i ≡ part_at qs i) → part_of ps v (node_of n) ≡ part_of qs w (node_of n)
 part_same ps qs v w at code.Iden below same = refl
 part_same ps qs v w at (code.Take i) below same = rw (same i below.0) refl
 part_same ps qs v w at (code.Drop i) below same = rw (same i below.0) refl

@@ -8,9 +8,9 @@ use Rattle.simplicity.specs.Typing as row
 use Rattle.simplicity.specs.Typing.{Arrow, arrow, Typing, HasArrow, HasNoArrow, Meets, EntryMeets, EntriesMeet, IsTyping, source_of, target_of}
 use Rattle.simplicity.proofs.Inversion.{iden_meets, take_meets, drop_meets, pair_meets}
 use Rattle.simplicity.proofs.Typings.{meets_at}
-use Rattle.term_core.specs.Nodes.{node_of}
-use Rattle.term_core.specs.declared.node.ListNode.{ListNode}
-use Rattle.term_core.specs.declared.node.ListNode.TheVariants as code
+use Rattle.small_terms.specs.Kinds.{node_of}
+use Rattle.small_terms.specs.declared.entries.SmallNode.{SmallNode}
+use Rattle.small_terms.specs.declared.entries.SmallNode.TheVariants as code
 use Rattle.small_terms.specs.declared.entries.Entry.{Entry}
 use Rattle.small_terms.specs.Emitting.{Adds, found, added, Emits, whole, first, rest, both}
 use Rattle.small_terms.specs.Entries.{entry_node, entry_nodes}
@@ -72,7 +72,7 @@ pub record IsTypedOn (ts : Typing) (new : List Entry) (at : ℕ) (source target 
   pub here : HasArrow typing at source target
 
 -- the target of one of these nodes follows from its source
-one_target : (ts : Typing) (n : ListNode) (a b c : Kind) → Meets ts (node_of n) a b → Meets ts (node_of n) a c → b ≡ c
+one_target : (ts : Typing) (n : SmallNode) (a b c : Kind) → Meets ts (node_of n) a b → Meets ts (node_of n) a c → b ≡ c
 one_target ts code.Iden a b c g h = sym (iden_meets ts a b g) ∙ iden_meets ts a c h
 one_target ts (code.Take i) a b c g h = (one_arrow ts i _ _ _ _ (take_meets ts i a b g).3 (take_meets ts i a c h).3).1
 one_target ts (code.Drop i) a b c g h = (one_arrow ts i _ _ _ _ (drop_meets ts i a b g).3 (drop_meets ts i a c h).3).1

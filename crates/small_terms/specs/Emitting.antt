@@ -1,7 +1,7 @@
 -- How the nodes of a plan come into a list: a node that stands there already is used again, another is added at the end.
 use Rattle.std.specs.Prelude.{◌≡◌, ℕ, List, [], ◌∷◌, ◌++◌, length, slice_get, Some}
 use Rattle.small_terms.specs.declared.entries.Entry.{Entry}
-use Rattle.term_core.specs.declared.node.ListNode.TheVariants as code
+use Rattle.small_terms.specs.declared.entries.SmallNode.TheVariants as code
 use Rattle.small_terms.specs.Plan.{Plan, Whole, First, Rest, Both}
 
 -- an entry is at a place of the new list, which is the old one where it had the entry

@@ -1,7 +1,7 @@
 -- The nodes of entries.
 use Rattle.std.specs.Prelude.{◌≡◌, ℕ, List, map, slice_get, Some}
 use Rattle.simplicity.specs.Nodes.{Node, AreUnder, children}
-use Rattle.term_core.specs.Nodes.{node_of}
+use Rattle.small_terms.specs.Kinds.{node_of}
 use Rattle.small_terms.specs.declared.entries.Entry.{Entry}
 
 abbrev pub entry_node : Entry → Node

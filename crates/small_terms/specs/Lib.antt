@@ -1,6 +1,7 @@
 pub mod Tuples
 pub mod Result
 pub mod Plan
+pub mod Kinds
 pub mod Entries
 pub mod Emitting
 pub mod Compiled

@@ -10,10 +10,10 @@ ghost use Rattle.small_terms.specs.Refusals.{IsUnknown};
 ghost use Rattle.small_terms.specs.Result.{first_unknown};
 ghost use Rattle.small_terms.specs.declared.build.BuildRefusal.TheVariants.{OutOfMemory};
 
-use crate::entries::{Entry, add};
+use crate::entries::{Entry, SmallNode, add};
 use small_source::{Body, Name, SmallFunction};
 use std::alloc::{AllocError, Global};
-use term_core::{ListNode, NodeList};
+use term_core::NodeList;
 
 /// Why no list is made.
 #[derive(Clone, Copy, Debug, PartialEq, Eq)]
@@ -71,7 +71,7 @@ fn emit_body(
         Body::Paired(left, right) => {
             let left = emit_body(entries, parameters, left)?;
             let right = emit_body(entries, parameters, right)?;
-            let node = ListNode::Pair(left, right);
+            let node = SmallNode::Pair(left, right);
             let count = parameters.len();
             Ok(add(entries, Entry { node, count })?)
         }
@@ -84,17 +84,17 @@ fn emit_path(entries: &mut Vec<Entry>, count: usize, place: usize) -> Result<usi
     ensures { IfOk result (λ at. (plan : Plan) → Picks count place plan → Emits entries.old.items plan entries.new.items at) }
 {
     if count == 1 {
-        let node = ListNode::Iden;
+        let node = SmallNode::Iden;
         return Ok(add(entries, Entry { node, count })?);
     }
     let half = count / 2;
     if place < half {
         let child = emit_path(entries, half, place)?;
-        let node = ListNode::Take(child);
+        let node = SmallNode::Take(child);
         return Ok(add(entries, Entry { node, count })?);
     }
     let child = emit_path(entries, count - half, place - half)?;
-    let node = ListNode::Drop(child);
+    let node = SmallNode::Drop(child);
     Ok(add(entries, Entry { node, count })?)
 }
 
@@ -119,7 +119,7 @@ fn listed(alloc: Global, entries: &[Entry]) -> Result<NodeList, AllocError>
 {
     let mut nodes = NodeList::new(alloc);
     for entry in entries {
-        nodes.push(entry.node)?;
+        nodes.push(entry.node.list_node())?;
     }
     Ok(nodes)
 }
@@ -129,6 +129,7 @@ mod tests {
     use super::*;
     use small_source::read_small;
     use std::test::Fail;
+    use term_core::ListNode;
 
     const THREE: &[u8] = b"fn f(x: u8, y: u8, z: u8) -> (u8, (u8, u8)) { (x, (y, z)) }";
 

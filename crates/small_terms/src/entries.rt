@@ -2,14 +2,39 @@
 
 ghost use Rattle.std.specs.Prelude.{◌≡◌, ℕ, slice_get, Some, IfSome, IfNone, IfOk};
 ghost use Rattle.small_terms.specs.Emitting.{Adds};
+ghost use Rattle.small_terms.specs.Kinds.{node_of};
+ghost use Rattle.term_core.specs.Nodes as list;
 
 use std::alloc::AllocError;
 use term_core::ListNode;
 
+/// A node of a kind that small sources need; it names its children by their places.
+#[derive(Clone, Copy, Debug, PartialEq, Eq)]
+pub(crate) enum SmallNode {
+    Iden,
+    Take(usize),
+    Drop(usize),
+    Pair(usize, usize),
+}
+
+impl SmallNode {
+    /// The same node for a list of nodes of every kind.
+    pub fn list_node(self) -> ListNode
+        ensures { list.node_of result ≡ node_of self }
+    {
+        match self {
+            SmallNode::Iden => ListNode::Iden,
+            SmallNode::Take(child) => ListNode::Take(child),
+            SmallNode::Drop(child) => ListNode::Drop(child),
+            SmallNode::Pair(left, right) => ListNode::Pair(left, right),
+        }
+    }
+}
+
 /// A node, and how many bytes its input has.
 #[derive(Clone, Copy, Debug, PartialEq, Eq)]
 pub(crate) struct Entry {
-    pub node: ListNode,
+    pub node: SmallNode,
     pub count: usize,
 }
 

@@ -1,20 +1,19 @@
 -- What the nodes of a list carry fits its field.
-use Rattle.std.proofs.Common.{◌≡◌, List, [], ◌∷◌}
-use Rattle.simplicity.specs.Carried.{IsCarried, AreCarried}
+use Rattle.std.proofs.Common.{Fits, w8, ℕ, suc, List, [], ◌∷◌, ◌++◌, get_or, arith}
+use Rattle.simplicity.specs.Carried.{AreBelow256, AreCarried, IsCarried}
 use Rattle.simplicity.specs.Nodes.{Node}
 use Rattle.term_core.specs.Nodes.{node_of, nodes_of}
-use Rattle.term_core.specs.declared.node.ListNode.{ListNode}
-use Rattle.term_core.specs.declared.node.ListNode.TheVariants as code
+use Rattle.term_core.specs.declared.list_node.ListNode.{ListNode}
+use Rattle.term_core.proofs.Placed.{nodes_of-push}
 
-carried_node : (n : ListNode) → IsCarried (node_of n)
-carried_node code.Iden = tt
-carried_node (code.Take i) = tt
-carried_node (code.Drop i) = tt
-carried_node (code.Pair i j) = tt
+-- a list of which each item is a byte
+pub bytes_below : (bs : List ℕ) → ((i : ℕ) → Fits w8 (get_or bs i 0)) → AreBelow256 bs
+bytes_below [] fits = tt
+bytes_below (b ∷ bs) fits = (omega (arith, fits 0), bytes_below bs (λ i. fits (suc i)))
 
-carried_nodes : (raw : List ListNode) → AreCarried (nodes_of raw)
-carried_nodes [] = tt
-carried_nodes (n ∷ raw) = (carried_node n, carried_nodes raw)
+carried_on : (ns : List Node) (n : Node) → AreCarried ns → IsCarried n → AreCarried (ns ++ n ∷ [])
+carried_on [] n all last = (last, tt)
+carried_on (m ∷ ns) n all last = (all.0, carried_on ns n all.1 last)
 
-pub carried_list : (raw : List ListNode) (ns : List Node) → nodes_of raw ≡ ns → AreCarried ns
-carried_list raw ns is = rw (← is) (carried_nodes raw)
+pub carried_push : (raw : List ListNode) (n : ListNode) → AreCarried (nodes_of raw) → IsCarried (node_of n) → AreCarried (nodes_of (raw ++ n ∷ []))
+carried_push raw n all last = rw nodes_of-push (carried_on (nodes_of raw) (node_of n) all last)

@@ -1,2 +1,5 @@
 pub mod Placed
-pub mod Carried
+mod Carried
+pub mod Growth
+pub mod Follow
+mod TypedTerms

@@ -2,7 +2,7 @@
 use Rattle.std.proofs.Common.{◌≡◌, List, [], ◌∷◌, ◌++◌, refl, ap, append_assoc, append-nil}
 use Rattle.simplicity.specs.Nodes.{Node, CanFollow, PlacedAfter, IsPlaced}
 use Rattle.term_core.specs.Nodes.{node_of, nodes_of}
-use Rattle.term_core.specs.declared.node.ListNode.{ListNode}
+use Rattle.term_core.specs.declared.list_node.ListNode.{ListNode}
 
 placed_on : (before ns : List Node) (n : Node) → PlacedAfter before ns → CanFollow (before ++ ns) n → PlacedAfter before (ns ++ n ∷ [])
 placed_on before [] n placed follows = (rw append-nil at follows, tt)

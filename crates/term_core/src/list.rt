@@ -1,11 +1,11 @@
 //! Lists of nodes.
 
 ghost use Rattle.std.specs.Prelude.{◌≡◌, ◌<◌, [], ◌∷◌, ◌++◌, length, slice_get, option_map, OnOk, OnErr, Some};
-ghost use Rattle.simplicity.specs.Carried.{AreCarried};
+ghost use Rattle.simplicity.specs.Carried.{AreCarried, IsCarried, AreBytes};
 ghost use Rattle.simplicity.specs.Nodes.{CanFollow, IsPlaced};
 ghost use Rattle.term_core.specs.Nodes.{node_of, nodes_of};
 
-use crate::node::ListNode;
+use crate::list_node::ListNode;
 use std::alloc::{AllocError, Global};
 use std::marker::Model;
 
@@ -17,6 +17,7 @@ pub struct NodeList {
 
 impl Model for NodeList {
     ghost use Rattle.std.specs.Prelude.{List};
+    ghost use Rattle.simplicity.specs.Carried.{AreCarried};
     ghost use Rattle.simplicity.specs.Nodes.{Node, IsPlaced};
     ghost use Rattle.term_core.specs.Nodes.{nodes_of};
 
@@ -24,7 +25,7 @@ impl Model for NodeList {
 
     ghost view = { λ l. nodes_of l.nodes.items };
 
-    ghost invariant = { λ l. IsPlaced (nodes_of l.nodes.items) };
+    ghost invariant = { λ l. IsPlaced (nodes_of l.nodes.items) × AreCarried (nodes_of l.nodes.items) };
 }
 
 impl NodeList {
@@ -43,6 +44,7 @@ impl NodeList {
         ensures ok { OnOk result (self.new ≡ self.old ++ node_of node ∷ []) }
         ensures err { OnErr result (self.new ≡ self.old) }
     {
+        carried_fits(&node);
         self.nodes.push(node)?;
         Ok(())
     }
@@ -70,6 +72,38 @@ impl NodeList {
     {
         self.nodes.as_slice()
     }
+}
+
+/// What a node carries fits its field, by the types of the code.
+fn carried_fits(node: &ListNode)
+    ensures { IsCarried (node_of node.now) }
+{
+    match node {
+        ListNode::Hidden(bytes) => hidden_fits(bytes),
+        ListNode::Fail(bytes) => fail_fits(bytes),
+        ListNode::Word(word) => {
+            let _width = word.width();
+        }
+        _ => {}
+    }
+}
+
+fn hidden_fits(bytes: &[u8; 32])
+    ensures { AreBytes 32 bytes.now }
+{
+    bytes_fit(bytes.as_slice());
+}
+
+fn fail_fits(bytes: &[u8; 64])
+    ensures { AreBytes 64 bytes.now }
+{
+    bytes_fit(bytes.as_slice());
+}
+
+fn bytes_fit(bytes: &[u8])
+    ensures { AreBytes (length bytes.now) bytes.now }
+{
+    let _count = bytes.len();
 }
 
 #[cfg(test)]

@@ -2,4 +2,4 @@ use Rattle.small_terms.proofs.Listed.{entry_follows}
 use Rattle.small_terms.proofs.build.listed.Goals as goal
 
 pub push-requires : goal.push-requires
-push-requires c = entry_follows c.args.entries.now c.loop-entry.entry-index _ c.loop-entry.nodes c.requires c.loop-entry-test.true c.loop-entry.invariant
+push-requires c = rw c.list_node.ensures (entry_follows c.args.entries.now c.loop-entry.entry-index _ c.loop-entry.nodes c.requires c.loop-entry-test.true c.loop-entry.invariant)

@@ -1,0 +1,5 @@
+use Rattle.term_core.proofs.Growth.{terms_stay}
+use Rattle.term_core.proofs.laws.terms_stay_law.Goals as goal
+
+pub returns : goal.returns
+returns c = terms_stay
