@@ -1,0 +1,2 @@
+mod Rooted
+mod Words
