@@ -1,0 +1,10 @@
+pub mod Same
+pub mod Names
+pub mod Literals
+pub mod Steps
+pub mod Walks
+pub mod Places
+pub mod Patterns
+pub mod Exprs
+pub mod Declared
+pub mod Programs
