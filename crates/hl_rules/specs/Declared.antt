@@ -15,7 +15,7 @@ use Rattle.hl_rules.specs.Same.{same_type, unit_type}
 use Rattle.hl_rules.specs.Steps.{Step, ◌>>=◌, ◌>>◌, needs}
 
 abbrev pub has_function : List TypedFunction → List ℕ → Bool
-has_function functions name = list_any (λ f. bytes_eq f.name name) functions
+has_function functions name = list_any (λ f. bytes_eq name f.name) functions
 
 -- the aliases with one more
 abbrev pub alias_walk : List TypedName → Mark → TypeText → Step (List TypedName)

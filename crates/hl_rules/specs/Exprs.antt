@@ -1,5 +1,5 @@
 -- Expressions at their types: the tree with its types, or the rule or limit that is broken first.
-use Rattle.std.specs.Prelude.{ℕ, Bool, true, false, not, ◌&&◌, nat_eq, nat_lt, List, [], ◌∷◌, ◌++◌, length, map, bytes_eq, find, Option, Some, None, Ok, if◌then◌else◌}
+use Rattle.std.specs.Prelude.{ℕ, ◌^◌, Bool, true, false, not, ◌&&◌, nat_eq, nat_lt, List, [], ◌∷◌, ◌++◌, length, map, bytes_eq, find, Option, Some, None, Ok, if◌then◌else◌}
 use Rattle.hl_syntax.specs.declared.kinds.HlType.{HlType}
 use Rattle.hl_syntax.specs.declared.kinds.HlType.TheVariants as kind
 use Rattle.hl_syntax.specs.declared.kinds.TypedName.{TypedName}
@@ -25,7 +25,7 @@ use Rattle.jets.specs.Jet as jets
 use Rattle.jets.specs.Jet.{Row}
 use Rattle.simplicityhl.specs.Kinds.{form, is_bound}
 use Rattle.simplicityhl.specs.Written.{walk, counted, then_walk}
-use Rattle.hl_rules.specs.Literals.{fits}
+use Rattle.hl_meaning.specs.Literals.{literal_value}
 use Rattle.hl_rules.specs.Patterns.{pattern_walk}
 use Rattle.hl_rules.specs.Places.{Scope, Context, has_name, variable_type, function_named, entry_named}
 use Rattle.hl_rules.specs.Same.{same_type, same_kind, unit_type, width_of, parts_of, array_of, list_of, option_of, either_of}
@@ -135,7 +135,7 @@ param_types f = map (λ p. p.kind) f.params
 
 -- the jet of a name
 unfoldable pub jet_named : List ℕ → Option Row
-jet_named name = find (λ row. bytes_eq row.name name) jets.rows
+jet_named name = find (λ row. bytes_eq name row.name) jets.rows
 
 abbrev pub jet_type : jets.Kind → HlType
 jet_type jets.Truth = kind.Bool
@@ -281,7 +281,7 @@ module _ (c : Context) where
     done typed.False
   form_step (ExprForm-F.Literal word) span scope expected rule = do
     width ← wants (width_of expected) rule span
-    needs (fits word width) K7 span
+    needs (nat_lt (literal_value word) (2 ^ width)) K7 span
     done (typed.Literal word)
   form_step (ExprForm-F.Call name arguments) span scope expected rule = do
     f ← wants (function_named c.functions name.text) K3 name.span

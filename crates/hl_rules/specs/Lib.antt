@@ -1,6 +1,5 @@
 pub mod Same
 pub mod Names
-pub mod Literals
 pub mod Steps
 pub mod Walks
 pub mod Places

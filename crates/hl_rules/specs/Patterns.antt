@@ -1,5 +1,5 @@
 -- Patterns at their types: the variables that they bind.
-use Rattle.std.specs.Prelude.{not, nat_eq, List, [], ◌∷◌, length, Ok}
+use Rattle.std.specs.Prelude.{not, nat_eq, List, [], ◌∷◌, ◌++◌, length, Ok}
 use Rattle.hl_syntax.specs.declared.kinds.HlType.{HlType}
 use Rattle.hl_syntax.specs.declared.rules.Rule.TheVariants.{K5, K6, K8, K24}
 use Rattle.hl_syntax.specs.declared.token.Span.{Span}
@@ -11,7 +11,7 @@ use Rattle.hl_rules.specs.Places.{Scope, has_name}
 use Rattle.hl_rules.specs.Same.{parts_of, array_of}
 use Rattle.hl_rules.specs.Steps.{Step, ◌>>=◌, ◌>>◌, needs, wants}
 
--- at a type, the variables that a pattern has bound up to the end of a part of it, given those before the part, the last first
+-- at a type, the variables that a pattern has bound up to the end of a part of it, given those before the part, in the text's order
 abbrev pub PatternWalk : Type 0
 PatternWalk = HlType → Scope → Step Scope
 
@@ -29,7 +29,7 @@ abbrev pub pattern_step : PatternForm-F (Span → PatternWalk) PatternWalk → S
 pattern_step (PatternForm-F.Name name) span kind bound = do
   needs (not (is_reserved variable_words name)) K24 span
   needs (not (has_name bound name)) K5 span
-  Ok (record { name = name; kind = kind } ∷ bound)
+  Ok (bound ++ record { name = name; kind = kind } ∷ [])
 pattern_step PatternForm-F.Ignore span kind bound = Ok bound
 pattern_step (PatternForm-F.Tuple parts) span kind bound = do
   kinds ← wants (parts_of kind) K6 span

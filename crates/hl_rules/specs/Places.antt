@@ -24,16 +24,16 @@ is_main name = bytes_eq name main_name
 
 -- whether a name is among these
 abbrev pub has_name : List TypedName → List ℕ → Bool
-has_name names name = list_any (λ known. bytes_eq known.name name) names
+has_name names name = list_any (λ known. bytes_eq name known.name) names
 
 -- the type of the innermost variable of a name
 abbrev pub variable_type : Scope → List ℕ → Option HlType
-variable_type scope name = option_map (λ known. known.kind) (find (λ known. bytes_eq known.name name) scope)
+variable_type scope name = option_map (λ known. known.kind) (find (λ known. bytes_eq name known.name) scope)
 
 -- the function before of a name; `main` is none that a call or a loop may name
 abbrev pub function_named : List TypedFunction → List ℕ → Option TypedFunction
-function_named functions name = find (λ f. bytes_eq f.name name && not (is_main f.name)) functions
+function_named functions name = find (λ f. bytes_eq name f.name && not (is_main f.name)) functions
 
 -- the entry of a parameter of the program
 abbrev pub entry_named : List Entry → List ℕ → Option Entry
-entry_named entries name = find (λ e. bytes_eq e.name name) entries
+entry_named entries name = find (λ e. bytes_eq name e.name) entries

@@ -1,5 +1,5 @@
 -- Programs: the first rule or limit that a source text breaks, or its functions with their types and its witnesses.
-use Rattle.std.specs.Prelude.{ℕ, List, [], ◌∷◌, ◌++◌, reverse, Option, Some, None, Result, Ok, Err}
+use Rattle.std.specs.Prelude.{ℕ, List, [], ◌∷◌, ◌++◌, Option, Some, None, Result, Ok, Err}
 use Rattle.hl_syntax.specs.declared.kinds.TypedName.{TypedName}
 use Rattle.hl_syntax.specs.declared.rules.Rule.TheVariants.{K6, K20}
 use Rattle.hl_syntax.specs.declared.token.Mark.{Mark}
@@ -25,7 +25,7 @@ pub record Known : Type 0 where
 abbrev pub function_walk : List Entry → Known → Mark → List Param → Option TypeText → Expr → Walk TypedFunction
 function_walk entries known name params text body = do
   head ← plain (head_walk known.aliases known.functions name params text)
-  found ← expr_walk (record { aliases = known.aliases; functions = known.functions; entries = entries; in_main = is_main name.text }) body (reverse head.params) head.result K6
+  found ← expr_walk (record { aliases = known.aliases; functions = known.functions; entries = entries; in_main = is_main name.text }) body head.params head.result K6
   done (record { name = name.text; params = head.params; result = head.result; body = found })
 
 abbrev pub item_walk : List Entry → Known → Item → Walk Known
