@@ -1,8 +1,13 @@
+pub mod Alike
 pub mod Exact
 pub mod Exprs
+pub mod Forms
 pub mod Lists
 pub mod Patterns
+pub mod Places
 pub mod Programs
+pub mod Readables
+pub mod Regular
 pub mod Starts
 pub mod Tokens
 pub mod Types

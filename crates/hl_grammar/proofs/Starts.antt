@@ -1,33 +1,80 @@
 -- What the first token and the symbol after it say.
-use Rattle.std.proofs.Common.{◌≡◌, ℕ, Bool, true, false, cond, not, List, refl, Option, Some}
+use Rattle.std.proofs.Common.{◌≡◌, Bool, true, false, cond, not, List, [], ◌∷◌, refl, subst, ◌⊎◌, inl, inr, Option, Some}
 use Rattle.hl_syntax.specs.declared.token.Token.{Token}
 use Rattle.hl_syntax.specs.declared.token.TokenKind.{TokenKind}
-use Rattle.hl_syntax.specs.declared.token.TokenKind.TheVariants as kinds
 use Rattle.hl_syntax.specs.declared.token.Symbol.{Symbol}
 use Rattle.simplicityhl.specs.Parts.{Part}
 use Rattle.simplicityhl.specs.Parts as g
-use Rattle.simplicityhl.specs.Grammar.{is_symbol, is_word, is_name, is_name_but, is_among, keywords}
-use Rattle.simplicityhl.specs.Grammar as grammar
+use Rattle.simplicityhl.specs.Grammar.{is_symbol}
+use Rattle.hl_grammar.specs.Readers.{first_is}
 use Rattle.hl_grammar.specs.Read.{next_symbol, first_two}
-use Rattle.hl_grammar.proofs.Tokens.{symbol_kind, word_kind}
+use Rattle.hl_grammar.proofs.Exact.{Shows, Told}
+use Rattle.hl_grammar.proofs.Tokens.{Begins, shows_one, symbol_kind, is_quiet, calm}
 
--- a word and a symbol after it
-pub starts_pair : {L B : Type 0} (start : TokenKind → Option Symbol → Option L) (x : List ℕ) (s : Symbol) (q : Part B) (ts : List Token) (b : B) (rest : List Token) → (g.◌>>◌ (grammar.word x) (g.◌>>◌ (grammar.symbol s) q)).Whole ts b rest → first_two start ts ≡ start (kinds.Name x) (Some s)
-starts_pair start x s q ts b rest w = rw (w.2.1, word_kind x w.2.0.kind w.2.2, w.3.2.1, symbol_kind s w.3.2.0.kind w.3.2.2) refl
+-- How a part begins: its first token and the symbol after it tell it. A front of it may also be its
+-- first token alone, of which something is known.
+pub record Opening {L A : Type 0} (free : List Token → Bool) (start : TokenKind → Option Symbol → Option L) (Heads : TokenKind → Type 0) (l : L) (p : Part A) : Type 0 where
+  pub whole : (ts : List Token) (a : A) (rest : List Token) → p.Whole ts a rest → free rest ≡ true → first_two start ts ≡ Some l
+  pub front : (ts rest : List Token) → p.Front ts rest → (rest ≡ ts) ⊎ (((t : Token) × (ts ≡ t ∷ rest) × Heads t.kind) ⊎ (first_two start ts ≡ Some l))
+  pub deep : (ts rest : List Token) → p.Deep ts rest → first_two start ts ≡ Some l
 
--- a word, and a part whose first token is this symbol
-pub starts_before : {L B : Type 0} (start : TokenKind → Option Symbol → Option L) (x : List ℕ) (s : Symbol) (q : Part B) (ts : List Token) (b : B) (rest : List Token) → ((us : List Token) (c : B) (vs : List Token) → q.Whole us c vs → next_symbol us ≡ Some s) → (g.◌>>◌ (grammar.word x) q).Whole ts b rest → first_two start ts ≡ start (kinds.Name x) (Some s)
-starts_before start x s q ts b rest next w = rw (w.2.1, word_kind x w.2.0.kind w.2.2, next w.1 b rest w.3) refl
+-- by the first token
+pub opens_shown : {L A : Type 0} {start : TokenKind → Option Symbol → Option L} {l : L} {p : Part A} (free : List Token → Bool) (Heads : TokenKind → Type 0) → Shows (first_two start) (Some l) p → Opening free start Heads l p
+opens_shown free Heads s = record {
+  whole = λ ts a rest w quiet. s.whole ts a rest w;
+  front = λ ts rest h. elim (s.front ts rest h) [ inl e ↦ inl e | inr k ↦ inr (inr k) ];
+  deep = s.deep;
+}
 
-pub starts_word : {L B : Type 0} (start : TokenKind → Option Symbol → Option L) (x : List ℕ) (q : Part B) (ts : List Token) (b : B) (rest : List Token) (l : Option L) → ((next : Option Symbol) → start (kinds.Name x) next ≡ l) → (g.◌>>◌ (grammar.word x) q).Whole ts b rest → first_two start ts ≡ l
-starts_word start x q ts b rest l so w = rw (w.2.1, word_kind x w.2.0.kind w.2.2) (so (next_symbol w.1))
+pub shows_start : {L A : Type 0} {l : L} (start : TokenKind → Option Symbol → Option L) (fits : TokenKind → Bool) (value : Token → A) → ((k : TokenKind) (next : Option Symbol) → fits k ≡ true → start k next ≡ Some l) → Shows (first_two start) (Some l) (g.one fits value)
+shows_start start fits value so = shows_one fits value (λ t us h. so t.kind (next_symbol us) h)
 
-pub starts_symbol : {L B : Type 0} (start : TokenKind → Option Symbol → Option L) (s : Symbol) (q : Part B) (ts : List Token) (b : B) (rest : List Token) (l : Option L) → ((next : Option Symbol) → start (kinds.Symbol s) next ≡ l) → (g.◌>>◌ (grammar.symbol s) q).Whole ts b rest → first_two start ts ≡ l
-starts_symbol start s q ts b rest l so w = rw (w.2.1, symbol_kind s w.2.0.kind w.2.2) (so (next_symbol w.1))
+next_is : (s : Symbol) (us : List Token) → first_is (is_symbol s) us ≡ true → next_symbol us ≡ Some s
+next_is s [] h = absurd (let no : ⊥ = cc in no)
+next_is s (u ∷ us) h = rw (symbol_kind s u.kind h) refl
 
--- a token that passes a test, before tokens that say something of their first symbol
-pub starts_one : {L A B : Type 0} (start : TokenKind → Option Symbol → Option L) (fits : TokenKind → Bool) (value : Token → A) (says : Option Symbol → Type 0) (q : A → Part B) (ts : List Token) (b : B) (rest : List Token) (l : Option L) → ((k : TokenKind) (next : Option Symbol) → fits k ≡ true → says next → start k next ≡ l) → ((a : A) (us : List Token) → (q a).Whole us b rest → says (next_symbol us)) → (g.◌>>=◌ (g.one fits value) q).Whole ts b rest → first_two start ts ≡ l
-starts_one start fits value says q ts b rest l so next w = rw w.2.1 (so w.2.0.kind (next_symbol w.1) w.2.2 (next w.0 w.1 w.3))
+-- by the first token and a symbol that begins what follows it
+pub opens_pair : {L A B : Type 0} {start : TokenKind → Option Symbol → Option L} {Heads : TokenKind → Type 0} {l : L} {q : A → Part B} (free : List Token → Bool) (fits : TokenKind → Bool) (value : Token → A) (s : Symbol)
+    → ((k : TokenKind) → fits k ≡ true → start k (Some s) ≡ Some l) → ((k : TokenKind) → fits k ≡ true → Heads k) → ((a : A) → Begins (is_symbol s) true (q a)) → Opening free start Heads l (g.◌>>=◌ (g.one fits value) q)
+opens_pair {start} {Heads} {l} {q} free fits value s so head next = record {
+  whole = λ ts b rest w quiet. both ts w.2.0 w.1 w.2.1 w.2.2 (next_is s w.1 ((next w.0).whole w.1 b rest w.3));
+  front = λ ts rest h. elim h [
+    | inl f ↦ elim f [ inl e ↦ inl e | inr u ↦ inr (inl (u.0, u.1, head u.0.kind u.2)) ]
+    | inr v ↦ elim ((next v.0).front v.1 rest v.3) [
+      | inl e ↦ inr (inl (v.2.0, subst (λ us. ts ≡ v.2.0 ∷ us) (rw e refl) v.2.1, head v.2.0.kind v.2.2))
+      | inr k ↦ inr (inr (both ts v.2.0 v.1 v.2.1 v.2.2 (next_is s v.1 k)))
+    ]
+  ];
+  deep = λ ts rest h. elim h [ inl e ↦ absurd e | inr v ↦ both ts v.2.0 v.1 v.2.1 v.2.2 (next_is s v.1 ((next v.0).deep v.1 rest v.3)) ];
+} where
+  both : (ts : List Token) (t : Token) (us : List Token) → ts ≡ t ∷ us → fits t.kind ≡ true → next_symbol us ≡ Some s → first_two start ts ≡ Some l
+  both ts t us e h k = rw (e, k) (so t.kind h)
+
+-- a token alone, which no symbol goes on
+pub opens_quiet : {L A B : Type 0} {start : TokenKind → Option Symbol → Option L} {Heads : TokenKind → Type 0} {l : L} (fits : TokenKind → Bool) (value : Token → A) (make : A → B)
+    → ((k : TokenKind) (next : Option Symbol) → fits k ≡ true → is_quiet next ≡ true → start k next ≡ Some l) → ((k : TokenKind) → fits k ≡ true → Heads k) → Opening calm start Heads l (g.◌>>=◌ (g.one fits value) (λ a. g.done (make a)))
+opens_quiet fits value make so head = record {
+  whole = λ ts b rest w quiet. rw w.2.1 (so w.2.0.kind (next_symbol w.1) w.2.2 (subst (λ us. calm us ≡ true) w.3.1 quiet));
+  front = λ ts rest h. elim h [
+    | inl f ↦ elim f [ inl e ↦ inl e | inr u ↦ inr (inl (u.0, u.1, head u.0.kind u.2)) ]
+    | inr v ↦ inr (inl (v.2.0, subst (λ us. ts ≡ v.2.0 ∷ us) (rw v.3 refl) v.2.1, head v.2.0.kind v.2.2))
+  ];
+  deep = λ ts rest h. elim h [ inl e ↦ absurd e | inr v ↦ absurd v.3 ];
+}
+
+-- parts that are each told so, where each first token alone is a front of the part that is then told
+pub told_by : {L A : Type 0} {free : List Token → Bool} {start : TokenKind → Option Symbol → Option L} {Heads : TokenKind → Type 0} {p : L → Part A} → ((l : L) → Opening free start Heads l (p l)) → ((t : Token) (us : List Token) → Heads t.kind → (m : L) × (first_two start (t ∷ us) ≡ Some m) × (p m).Front (t ∷ us) us) → Told free (first_two start) p
+told_by {L} {start} {p} openings alone = record {
+  whole = λ l ts a rest w quiet. (openings l).whole ts a rest w quiet;
+  front = λ l ts rest h. elim ((openings l).front ts rest h) [
+    | inl e ↦ inl e
+    | inr u ↦ elim u [
+      | inl v ↦ inr (subst (λ us. (m : L) × (first_two start us ≡ Some m) × (p m).Front us rest) (rw v.1 refl) (alone v.0 rest v.2))
+      | inr k ↦ inr (l, k, h)
+    ]
+  ];
+  deep = λ l ts rest h. (openings l).deep ts rest h;
+}
 
 -- a test that holds where another is refused
 pub else_part : {A : Type 0} (b : Bool) (x y : A) → not b ≡ true → cond b x y ≡ y

@@ -3,7 +3,6 @@ use Rattle.std.proofs.Common.{◌≡◌, ℕ, ◌-◌, Bool, true, false, List, 
 use Rattle.std.proofs.lemmas.Slice.Eq.{bytes_eq-Decides}
 use denote.Enum.Bare.{same_true}
 use Rattle.hl_syntax.specs.contracts.token.Symbol.{the_type}
-use Rattle.hl_syntax.specs.declared.token.Span.{Span}
 use Rattle.hl_syntax.specs.declared.token.Token.{Token}
 use Rattle.hl_syntax.specs.declared.token.TokenKind.{TokenKind}
 use Rattle.hl_syntax.specs.declared.token.TokenKind.TheVariants as kinds
@@ -17,7 +16,7 @@ use Rattle.hl_grammar.specs.Readers.{Outcome, Reader, got, dead, too_deep, first
 use Rattle.hl_grammar.specs.Readers as r
 use Rattle.hl_grammar.specs.Read.{next_symbol, symbol_in, first_two, is_at, is_at_word}
 use Rattle.hl_grammar.specs.Read as read
-use Rattle.hl_grammar.proofs.Exact.{Exact, anything, freely, at_least, done-exact, one-exact, after-exact, spans}
+use Rattle.hl_grammar.proofs.Exact.{Exact, Shows, shows_then, shows_by, shown, anything, free_anything, follows_done, freely, at_least, done-exact, one-exact, after-exact}
 
 pub symbol_kind : (s : Symbol) (k : TokenKind) → is_symbol s k ≡ true → k ≡ kinds.Symbol s
 symbol_kind s (kinds.Symbol other) e = ap (λ x. kinds.Symbol x) (same_true the_type (search rules) other s e)
@@ -31,25 +30,24 @@ word_kind w (kinds.Literal other) e = absurd (let no : ⊥ = cc in no)
 
 -- the first token of an occurrence answers a test so
 abbrev pub Begins : {A : Type 0} → (TokenKind → Bool) → Bool → Part A → Type 0
-Begins {A} test answer p = (ts : List Token) (a : A) (rest : List Token) → p.Whole ts a rest → first_is test ts ≡ answer
+Begins {A} test answer p = Shows (first_is test) answer p
+
+-- what a token shows together with those after it
+pub shows_one : {A V : Type 0} {test : List Token → V} {answer : V} (fits : TokenKind → Bool) (value : Token → A) → ((t : Token) (us : List Token) → fits t.kind ≡ true → test (t ∷ us) ≡ answer) → Shows test answer (g.one fits value)
+shows_one fits value so = record {
+  whole = λ ts a rest w. rw w.1 (so w.0 rest w.2);
+  front = λ ts rest h. elim h [ inl e ↦ inl e | inr u ↦ inr (rw u.1 (so u.0 rest u.2)) ];
+  deep = λ ts rest h. absurd h;
+}
 
 pub begins_one : {A : Type 0} (fits : TokenKind → Bool) (value : Token → A) (test : TokenKind → Bool) (answer : Bool) → ((k : TokenKind) → fits k ≡ true → test k ≡ answer) → Begins test answer (g.one fits value)
-begins_one fits value test answer so ts a rest w = rw w.1 (so w.0.kind w.2)
+begins_one fits value test answer so = shows_one fits value (λ t us h. so t.kind h)
 
 pub begins_symbol : (s : Symbol) (test : TokenKind → Bool) (answer : Bool) → test (kinds.Symbol s) ≡ answer → Begins test answer (grammar.symbol s)
-begins_symbol s test answer e ts a rest w = rw (w.1, symbol_kind s w.0.kind w.2) e
+begins_symbol s test answer e = shows_one (is_symbol s) (λ t. tt) (λ t us h. rw (symbol_kind s t.kind h) e)
 
 pub begins_word : (x : List ℕ) (test : TokenKind → Bool) (answer : Bool) → test (kinds.Name x) ≡ answer → Begins test answer (grammar.word x)
-begins_word x test answer e ts a rest w = rw (w.1, word_kind x w.0.kind w.2) e
-
-pub begins_after : {A B : Type 0} (p : Part A) (q : A → Part B) (test : TokenKind → Bool) (answer : Bool) → Begins test answer p → Begins test answer (g.◌>>=◌ p q)
-begins_after p q test answer h ts b rest w = h ts w.0 w.1 w.2
-
-pub begins_either : {A : Type 0} (p q : Part A) (test : TokenKind → Bool) (answer : Bool) → Begins test answer p → Begins test answer q → Begins test answer (g.either p q)
-begins_either p q test answer h k ts a rest w = elim w [ inl u ↦ h ts a rest u | inr v ↦ k ts a rest v ]
-
-pub begins_spanned : {A B : Type 0} (make : A → Span → B) (p : Part A) (test : TokenKind → Bool) (answer : Bool) → Begins test answer p → Begins test answer (g.spanned make p)
-begins_spanned make p test answer h ts b rest w = let s = spans make p ts b rest w in h ts s.value rest s.stands
+begins_word x test answer e = shows_one (is_word x) (λ t. tt) (λ t us h. rw (word_kind x t.kind h) e)
 
 -- a first token that passes one test fails another, that no token passes with the first
 pub begins_else : (test other : TokenKind → Bool) (ts : List Token) → ((k : TokenKind) → test k ≡ true → other k ≡ false) → first_is test ts ≡ true → first_is other ts ≡ false
@@ -63,9 +61,19 @@ not_symbol s test k fails h = by_case (is_symbol s k) refl where
   by_case false e = e
   by_case true e = let same : k ≡ kinds.Symbol s = symbol_kind s k e in let yes : test (kinds.Symbol s) ≡ true = subst (λ x. test x ≡ true) same h in absurd (let no : ⊥ = cc in no)
 
-pub not_at : (s : Symbol) (test : TokenKind → Bool) (ts : List Token) → test (kinds.Symbol s) ≡ false → first_is test ts ≡ true → is_at s ts ≡ false
+-- tokens that begin so are at a symbol, or not
+pub at_first : {A : Type 0} {answer : Bool} {p : Part A} (s : Symbol) → Begins (is_symbol s) answer p → Shows (is_at s) answer p
 unfolding is_at
-not_at s test ts fails h = begins_else test (is_symbol s) ts (λ k. not_symbol s test k fails) h
+at_first s h = h
+
+pub at_symbol : (s : Symbol) → is_symbol s (kinds.Symbol s) ≡ true → Shows (is_at s) true (grammar.symbol s)
+at_symbol s e = at_first s (begins_symbol s (is_symbol s) true e)
+
+pub not_at_symbol : (s other : Symbol) → is_symbol s (kinds.Symbol other) ≡ false → Shows (is_at s) false (grammar.symbol other)
+not_at_symbol s other e = at_first s (begins_symbol other (is_symbol s) false e)
+
+pub not_at : {A : Type 0} {p : Part A} (s : Symbol) (test : TokenKind → Bool) → test (kinds.Symbol s) ≡ false → Begins test true p → Shows (is_at s) false p
+not_at s test fails h = at_first s (shows_by (first_is (is_symbol s)) false (λ ts k. begins_else test (is_symbol s) ts (λ x. not_symbol s test x fails) k) h)
 
 -- What may go on a name: a symbol that is none of these ends it.
 
@@ -81,62 +89,61 @@ is_quiet (Some s) = true
 abbrev pub calm : List Token → Bool
 calm ts = is_quiet (next_symbol ts)
 
-pub calm_symbol : (s : Symbol) → is_quiet (Some s) ≡ true → (ts : List Token) (a : Unit {0}) (rest : List Token) → (grammar.symbol s).Whole ts a rest → calm ts ≡ true
-calm_symbol s e ts a rest w = rw (w.1, symbol_kind s w.0.kind w.2) e
+pub calm_symbol : (s : Symbol) → is_quiet (Some s) ≡ true → Shows calm true (grammar.symbol s)
+calm_symbol s e = shows_one (is_symbol s) (λ t. tt) (λ t us h. rw (symbol_kind s t.kind h) e)
 
 -- Readers.
 
-pub symbol-exact : (s : Symbol) (bound : ℕ) → Exact anything 1 bound (grammar.symbol s) (grammar.symbol s) (read.symbol s)
+pub symbol-exact : {d n : ℕ} (s : Symbol) (bound : ℕ) → Exact anything d n 1 bound (grammar.symbol s) (grammar.symbol s) (read.symbol s)
 unfolding read.symbol
 symbol-exact s bound = one-exact (is_symbol s) (λ t. tt) bound
 
-pub word-exact : (x : List ℕ) (bound : ℕ) → Exact anything 1 bound (grammar.word x) (grammar.word x) (read.word x)
+pub word-exact : {d n : ℕ} (x : List ℕ) (bound : ℕ) → Exact anything d n 1 bound (grammar.word x) (grammar.word x) (read.word x)
 unfolding read.word
 word-exact x bound = one-exact (is_word x) (λ t. tt) bound
 
-pub name-exact : (bound : ℕ) → Exact anything 1 bound grammar.name grammar.name read.name
+pub name-exact : {d n : ℕ} (bound : ℕ) → Exact anything d n 1 bound grammar.name grammar.name read.name
 unfolding read.name
 name-exact bound = one-exact is_name mark bound
 
-pub decimal-exact : (bound : ℕ) → Exact anything 1 bound grammar.decimal grammar.decimal read.decimal
+pub decimal-exact : {d n : ℕ} (bound : ℕ) → Exact anything d n 1 bound grammar.decimal grammar.decimal read.decimal
 unfolding read.decimal
 decimal-exact bound = one-exact is_decimal mark bound
 
-pub literal-exact : (bound : ℕ) → Exact anything 1 bound (g.one is_literal mark) (g.one is_literal mark) read.literal
+pub literal-exact : {d n : ℕ} (bound : ℕ) → Exact anything d n 1 bound (g.one is_literal mark) (g.one is_literal mark) read.literal
 unfolding read.literal
 literal-exact bound = one-exact is_literal mark bound
 
-pub name_but-exact : (words : List (List ℕ)) (bound : ℕ) → Exact anything 1 bound (g.one (is_name_but words) mark) (g.one (is_name_but words) mark) (read.name_but words)
+pub name_but-exact : {d n : ℕ} (words : List (List ℕ)) (bound : ℕ) → Exact anything d n 1 bound (g.one (is_name_but words) mark) (g.one (is_name_but words) mark) (read.name_but words)
 unfolding read.name_but
 name_but-exact words bound = one-exact (is_name_but words) mark bound
 
 -- a part that anything may follow, and then another
-pub then-free : {A B : Type 0} {f : List Token → Bool} {least bound : ℕ} {p p' : Part A} {q q' : A → Part B} {first : Reader A} {then : A → Reader B}
-    → Exact anything 1 bound p p' first → ((a : A) → Exact f least (bound - 1) (q a) (q' a) (then a)) → Exact f 1 bound (g.◌>>=◌ p q) (g.◌>>=◌ p' q') (r.◌>>=◌ first then)
-then-free {least} x y = at_least 1 (omega arith) (after-exact x y (λ a ts b rest w free. refl))
+pub then-free : {A B : Type 0} {f : List Token → Bool} {d n least bound : ℕ} {p p' : Part A} {q q' : A → Part B} {first : Reader A} {then : A → Reader B}
+    → Exact anything d n 1 bound p p' first → ((a : A) → Exact f d n least (bound - 1) (q a) (q' a) (then a)) → Exact f d n 1 bound (g.◌>>=◌ p q) (g.◌>>=◌ p' q') (r.◌>>=◌ first then)
+then-free {f} {least} {q} x y = at_least 1 (omega arith) (after-exact x y (λ a. free_anything f (q a)))
 
 -- a part that a name may end, and then another that begins with no symbol that goes on a name
-pub then-calm : {A B : Type 0} {f : List Token → Bool} {least bound : ℕ} {p p' : Part A} {q q' : A → Part B} {first : Reader A} {then : A → Reader B}
-    → Exact calm 1 bound p p' first → ((a : A) → Exact f least (bound - 1) (q a) (q' a) (then a))
-    → ((a : A) (ts : List Token) (b : B) (rest : List Token) → (q a).Whole ts b rest → f rest ≡ true → calm ts ≡ true)
-    → Exact f 1 bound (g.◌>>=◌ p q) (g.◌>>=◌ p' q') (r.◌>>=◌ first then)
-then-calm {least} x y follows = at_least 1 (omega arith) (after-exact x y follows)
+pub then-calm : {A B : Type 0} {f : List Token → Bool} {d n least bound : ℕ} {p p' : Part A} {q q' : A → Part B} {first : Reader A} {then : A → Reader B}
+    → Exact calm d n 1 bound p p' first → ((a : A) → Exact f d n least (bound - 1) (q a) (q' a) (then a)) → ((a : A) → Shows calm true (q a))
+    → Exact f d n 1 bound (g.◌>>=◌ p q) (g.◌>>=◌ p' q') (r.◌>>=◌ first then)
+then-calm {f} {least} x y shows = at_least 1 (omega arith) (after-exact x y (λ a. shown f (shows a)))
 
-pub symbol-then : {B : Type 0} {f : List Token → Bool} {least bound : ℕ} {q q' : Part B} {then : Reader B} (s : Symbol)
-    → Exact f least (bound - 1) q q' then → Exact f 1 bound (g.◌>>◌ (grammar.symbol s) q) (g.◌>>◌ (grammar.symbol s) q') (r.◌>>◌ (read.symbol s) then)
+pub symbol-then : {B : Type 0} {f : List Token → Bool} {d n least bound : ℕ} {q q' : Part B} {then : Reader B} (s : Symbol)
+    → Exact f d n least (bound - 1) q q' then → Exact f d n 1 bound (g.◌>>◌ (grammar.symbol s) q) (g.◌>>◌ (grammar.symbol s) q') (r.◌>>◌ (read.symbol s) then)
 symbol-then {bound} s y = then-free (symbol-exact s bound) (λ _. y)
 
-pub word-then : {B : Type 0} {f : List Token → Bool} {least bound : ℕ} {q q' : Part B} {then : Reader B} (x : List ℕ)
-    → Exact f least (bound - 1) q q' then → Exact f 1 bound (g.◌>>◌ (grammar.word x) q) (g.◌>>◌ (grammar.word x) q') (r.◌>>◌ (read.word x) then)
+pub word-then : {B : Type 0} {f : List Token → Bool} {d n least bound : ℕ} {q q' : Part B} {then : Reader B} (x : List ℕ)
+    → Exact f d n least (bound - 1) q q' then → Exact f d n 1 bound (g.◌>>◌ (grammar.word x) q) (g.◌>>◌ (grammar.word x) q') (r.◌>>◌ (read.word x) then)
 word-then {bound} x y = then-free (word-exact x bound) (λ _. y)
 
 -- a part that a name may end, a symbol that ends it, and then another part
-pub then-symbol : {A B : Type 0} {f : List Token → Bool} {least bound : ℕ} {p p' : Part A} {q q' : A → Part B} {first : Reader A} {then : A → Reader B} (s : Symbol)
-    → is_quiet (Some s) ≡ true → Exact calm 1 bound p p' first → ((a : A) → Exact f least (bound - 1 - 1) (q a) (q' a) (then a))
-    → Exact f 1 bound (g.◌>>=◌ p (λ a. g.◌>>◌ (grammar.symbol s) (q a))) (g.◌>>=◌ p' (λ a. g.◌>>◌ (grammar.symbol s) (q' a))) (r.◌>>=◌ first (λ a. r.◌>>◌ (read.symbol s) (then a)))
-then-symbol s quiet x y = then-calm x (λ a. symbol-then s (y a)) (λ a ts b rest w free. calm_symbol s quiet ts w.0 w.1 w.2)
+pub then-symbol : {A B : Type 0} {f : List Token → Bool} {d n least bound : ℕ} {p p' : Part A} {q q' : A → Part B} {first : Reader A} {then : A → Reader B} (s : Symbol)
+    → is_quiet (Some s) ≡ true → Exact calm d n 1 bound p p' first → ((a : A) → Exact f d n least (bound - 1 - 1) (q a) (q' a) (then a))
+    → Exact f d n 1 bound (g.◌>>=◌ p (λ a. g.◌>>◌ (grammar.symbol s) (q a))) (g.◌>>=◌ p' (λ a. g.◌>>◌ (grammar.symbol s) (q' a))) (r.◌>>=◌ first (λ a. r.◌>>◌ (read.symbol s) (then a)))
+then-symbol s quiet x y = then-calm x (λ a. symbol-then s (y a)) (λ a. shows_then (calm_symbol s quiet))
 
 -- a part, and what is made of its value
-pub then-done : {A B : Type 0} {f : List Token → Bool} {bound : ℕ} {p p' : Part A} {first : Reader A} (make : A → B)
-    → Exact f 1 bound p p' first → Exact f 1 bound (g.◌>>=◌ p (λ a. g.done (make a))) (g.◌>>=◌ p' (λ a. g.done (make a))) (r.◌>>=◌ first (λ a. r.done (make a)))
-then-done {f} {bound} make x = at_least 1 (omega arith) (after-exact x (λ a. freely f (done-exact (make a) (bound - 1))) (λ a ts b rest w free. subst (λ us. f us ≡ true) w.1 free))
+pub then-done : {A B : Type 0} {f : List Token → Bool} {d n bound : ℕ} {p p' : Part A} {first : Reader A} (make : A → B)
+    → Exact f d n 1 bound p p' first → Exact f d n 1 bound (g.◌>>=◌ p (λ a. g.done (make a))) (g.◌>>=◌ p' (λ a. g.done (make a))) (r.◌>>=◌ first (λ a. r.done (make a)))
+then-done {f} {bound} make x = at_least 1 (omega arith) (after-exact x (λ a. freely f (done-exact (make a) (bound - 1))) (λ a. follows_done f (make a)))

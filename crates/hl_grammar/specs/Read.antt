@@ -122,21 +122,29 @@ side_start_by k next = None
 unfoldable pub side_start : List Token → Option SideAlternative
 side_start = first_two side_start_by
 
--- an expression that begins with this word before `!`
+-- an expression that begins with this word, whatever stands next
+unfoldable pub before_others : List ℕ → ExprAlternative
+before_others w =
+    if bytes_eq w (codes "None") then expr_as.Nothing
+    else (if bytes_eq w (codes "true") then expr_as.True
+    else (if bytes_eq w (codes "false") then expr_as.False
+    else expr_as.Name))
+
+-- the same before `!`
 unfoldable pub before_exclamation : List ℕ → ExprAlternative
 before_exclamation w =
     if bytes_eq w (codes "list") then expr_as.List
     else (if bytes_eq w (codes "assert") then expr_as.Assert
     else (if bytes_eq w (codes "dbg") then expr_as.Dbg
     else (if bytes_eq w (codes "panic") then expr_as.Panic
-    else expr_as.Name)))
+    else before_others w)))
 
 unfoldable pub loop_before_colons : List ℕ → ExprAlternative
 loop_before_colons w =
     if bytes_eq w (codes "fold") then expr_as.Fold
     else (if bytes_eq w (codes "array_fold") then expr_as.ArrayFold
     else (if bytes_eq w (codes "for_while") then expr_as.ForWhile
-    else expr_as.Name))
+    else before_others w))
 
 -- the same before `::`
 unfoldable pub before_colons : List ℕ → ExprAlternative
@@ -157,14 +165,6 @@ before_parenthesis w =
     else (if bytes_eq w (codes "Right") then expr_as.Right
     else (if bytes_eq w (codes "Some") then expr_as.Some
     else expr_as.Call)))
-
--- the same before anything else
-unfoldable pub before_others : List ℕ → ExprAlternative
-before_others w =
-    if bytes_eq w (codes "None") then expr_as.Nothing
-    else (if bytes_eq w (codes "true") then expr_as.True
-    else (if bytes_eq w (codes "false") then expr_as.False
-    else expr_as.Name))
 
 abbrev pub named_expr : List ℕ → Option Symbol → ExprAlternative
 named_expr w (Some Exclamation) = before_exclamation w
@@ -190,6 +190,36 @@ expr_start_by (kinds.Symbol s) next = symbol_start s
 
 unfoldable pub expr_start : List Token → Option ExprAlternative
 expr_start = first_two expr_start_by
+
+-- a value text that begins with this word
+unfoldable pub word_value : List ℕ → Option ExprAlternative
+word_value w =
+    if bytes_eq w (codes "list") then Some expr_as.List
+    else (if bytes_eq w (codes "Left") then Some expr_as.Left
+    else (if bytes_eq w (codes "Right") then Some expr_as.Right
+    else (if bytes_eq w (codes "Some") then Some expr_as.Some
+    else (if bytes_eq w (codes "None") then Some expr_as.Nothing
+    else (if bytes_eq w (codes "true") then Some expr_as.True
+    else (if bytes_eq w (codes "false") then Some expr_as.False
+    else None))))))
+
+abbrev pub value_start_by : TokenKind → Option Symbol → Option ExprAlternative
+value_start_by (kinds.Name w) next = word_value w
+value_start_by (kinds.Literal w) next = Some expr_as.Literal
+value_start_by (kinds.Symbol OpenBracket) next = Some expr_as.Array
+value_start_by (kinds.Symbol s) next = None
+
+unfoldable pub value_start : List Token → Option ExprAlternative
+value_start = first_two value_start_by
+
+abbrev pub start_of : Bool → List Token → Option ExprAlternative
+start_of true = value_start
+start_of false = expr_start
+
+-- the alternatives that are read, and what tells them
+abbrev pub allowed_by : Bool → ExprAlternative → Bool
+allowed_by true = of_values
+allowed_by false = every_alternative
 
 -- What a single token begins.
 
@@ -456,17 +486,13 @@ module _ (expr : Reader Expr) (type : Reader TypeText) (pattern : Reader Pattern
   abbrev pub allowed_form : (ExprAlternative → Bool) → ExprAlternative → Reader ExprForm
   allowed_form allowed alternative = chosen (allowed alternative) (expr_form alternative) refuse
 
-  unfoldable pub expr_level : (ExprAlternative → Bool) → Reader Expr
-  expr_level allowed =
-      choose (is_at OpenParenthesis) (parenthesised (λ es. expr_of (exprs.Tuple es)) expr) (spanned expr_of (pick expr_start (allowed_form allowed)))
-
-abbrev pub allowed_by : Bool → ExprAlternative → Bool
-allowed_by true = of_values
-allowed_by false = every_alternative
+  unfoldable pub expr_level : Bool → Reader Expr
+  expr_level values_only =
+      choose (is_at OpenParenthesis) (parenthesised (λ es. expr_of (exprs.Tuple es)) expr) (spanned expr_of (pick (start_of values_only) (allowed_form (allowed_by values_only))))
 
 unfoldable pub expr_of_only : Bool → ℕ → Reader Expr
 expr_of_only values_only zero = brink (begins_expr values_only)
-expr_of_only values_only (suc depth) = expr_level (expr_of_only values_only depth) (type depth) (pattern depth) (allowed_by values_only)
+expr_of_only values_only (suc depth) = expr_level (expr_of_only values_only depth) (type depth) (pattern depth) values_only
 
 abbrev pub expr : ℕ → Reader Expr
 expr = expr_of_only false

@@ -1,17 +1,12 @@
 -- The parser's answers.
-use Rattle.std.specs.Prelude.{◌≡◌, ℕ, List, [], ◌∷◌, Result, Ok, Err}
-use Rattle.hl_syntax.specs.declared.token.Span.{Span}
+use Rattle.std.specs.Prelude.{◌≡◌, ℕ, List, Result, Ok, Err}
 use Rattle.hl_syntax.specs.declared.token.Token.{Token}
-use Rattle.hl_parse.specs.declared.parse.ParseRefusal.{ParseRefusal}
-use Rattle.hl_parse.specs.declared.parse.ParseRefusal.TheVariants.{Syntax, TooDeep, OutOfMemory}
+use Rattle.hl_parse.specs.declared.parser.ParseRefusal.{ParseRefusal}
+use Rattle.hl_parse.specs.declared.parser.ParseRefusal.TheVariants.{Syntax, TooDeep, OutOfMemory}
 use Rattle.hl_parse.specs.declared.refused.Refused.{Refused}
 use Rattle.hl_parse.specs.declared.refused.Refused.TheVariants as refused
+use Rattle.simplicityhl.specs.Viable.{place}
 use Rattle.hl_grammar.specs.Readers.{Outcome, got, dead, too_deep}
-
--- the bytes of the first of some tokens, or none at the text's end
-abbrev pub place : List Token → ℕ → Span
-place [] end = record { start = end; end = end }
-place (t ∷ ts) end = t.span
 
 -- an answer is what reading gives, a refusal with the bytes at which it stopped, or memory was short
 abbrev pub Answers : {A : Type 0} → Outcome A → ℕ → Result A ParseRefusal → Type 0

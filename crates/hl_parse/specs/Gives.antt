@@ -4,8 +4,10 @@ use Rattle.hl_syntax.specs.declared.token.Token.{Token}
 use Rattle.hl_parse.specs.declared.refused.Refused.{Refused}
 use Rattle.hl_parse.specs.declared.refused.Refused.TheVariants.{Syntax, TooDeep, OutOfMemory}
 use Rattle.hl_parse.specs.declared.listed.Listed as code
+use Rattle.hl_parse.specs.declared.turn.Turn.{Turn}
+use Rattle.hl_parse.specs.declared.turn.Turn.TheVariants.{More, Last}
 use Rattle.simplicityhl.specs.Grammar.{Listed, alone_or}
-use Rattle.hl_grammar.specs.Readers.{Outcome, got, dead, too_deep}
+use Rattle.hl_grammar.specs.Readers.{Outcome, Reader, got, dead, too_deep}
 
 -- what was answered, seen by a view, is what reading gives, with these tokens left, unless memory was short
 abbrev pub Gives : {X A : Type 0} → (X → A) → Outcome A → Result X Refused → List Token → Type 0
@@ -29,3 +31,11 @@ listed_of l = record { items = l.items; is_open = l.is_open }
 abbrev pub IsAlone : {A : Type 0} → List A → Bool → Result A (List A) → Type 0
 IsAlone {A} xs is_open (Ok a) = (tuple : List A → A) → alone_or tuple xs is_open ≡ a
 IsAlone {A} xs is_open (Err ys) = (tuple : List A → A) → alone_or tuple xs is_open ≡ tuple ys
+
+-- a turn of a repetition found this, and what was read is the whole, or more is to be read
+abbrev pub Turned : {X A V : Type 0} → (X → Reader A) → (V → A) → Outcome A → X → Result (Turn V) Refused → List Token → Type 0
+Turned more view outcome found (Ok More) rest = outcome ≡ more found rest
+Turned more view outcome found (Ok (Last last)) rest = outcome ≡ got (view last) rest
+Turned more view outcome found (Err Syntax) rest = outcome ≡ dead rest
+Turned more view outcome found (Err TooDeep) rest = outcome ≡ too_deep rest
+Turned more view outcome found (Err OutOfMemory) rest = Unit {0}

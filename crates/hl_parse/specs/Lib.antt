@@ -1,3 +1,5 @@
 pub mod Answers
+pub mod Exprs
 pub mod Gives
 pub mod Nests
+pub mod Refusals

@@ -1,9 +1,9 @@
-ghost use Rattle.std.specs.Prelude.{◌≡◌, suc, length};
+ghost use Rattle.std.specs.Prelude.{◌≡◌, suc, length, not, false, if◌then◌else◌};
 ghost use Rattle.simplicityhl.specs.Parts.{span_between, span_of, last_end};
-ghost use Rattle.simplicityhl.specs.Grammar.{is_symbol, is_word, is_among, keywords, mark};
+ghost use Rattle.simplicityhl.specs.Grammar.{is_symbol, is_word, is_among, keywords, applied_words, constants, mark};
 ghost use Rattle.simplicityhl.specs.Tokens.{are_digits};
 ghost use Rattle.std.specs.Char.{is_ascii_digit};
-ghost use Rattle.hl_grammar.specs.Readers.{end};
+ghost use Rattle.hl_grammar.specs.Readers.{end, is_end};
 ghost use Rattle.hl_grammar.specs.Read.{is_at, is_at_word};
 ghost use Rattle.hl_grammar.specs.Read as read;
 ghost use Rattle.hl_parse.specs.Gives.{Gives, Reads, Takes};
@@ -132,6 +132,13 @@ impl<'a> Cursor<'a> {
         }
     }
 
+    /// Whether no token is left.
+    pub(crate) fn is_end(&self) -> bool
+        ensures { result ≡ is_end self.now }
+    {
+        self.rest.is_empty()
+    }
+
     /// Takes nothing, where no token is left.
     pub(crate) fn expect_end(&self) -> Result<(), Refused>
         ensures { Reads (end self.now) result self.now }
@@ -172,6 +179,69 @@ impl<'a> Cursor<'a> {
         }
     }
 
+    /// Takes the next token, which must be a name, and none of those that begin an operand.
+    #[tactic(auto, unfolding(hl_grammar::specs::Read::name_but))]
+    pub(crate) fn call_name(&mut self) -> Result<Mark, Refused>
+        ensures { Reads (read.name_but applied_words self.old) result self.new }
+    {
+        let Some((token, rest)) = self.rest.split_first() else {
+            return Err(Refused::Syntax);
+        };
+        match &token.kind {
+            TokenKind::Name(word) if is_call_name(word.as_str()) => {
+                let text = word.clone()?;
+                self.rest = rest;
+                Ok(Mark {
+                    text,
+                    span: token.span,
+                })
+            }
+            _ => Err(Refused::Syntax),
+        }
+    }
+
+    /// Takes the next token, which must be a name, and none of a value.
+    #[tactic(auto, unfolding(hl_grammar::specs::Read::name_but))]
+    pub(crate) fn variable(&mut self) -> Result<Mark, Refused>
+        ensures { Reads (read.name_but constants self.old) result self.new }
+    {
+        let Some((token, rest)) = self.rest.split_first() else {
+            return Err(Refused::Syntax);
+        };
+        match &token.kind {
+            TokenKind::Name(word) if is_variable(word.as_str()) => {
+                let text = word.clone()?;
+                self.rest = rest;
+                Ok(Mark {
+                    text,
+                    span: token.span,
+                })
+            }
+            _ => Err(Refused::Syntax),
+        }
+    }
+
+    /// Takes the next token, which must be a literal.
+    #[tactic(auto, unfolding(hl_grammar::specs::Read::literal))]
+    pub(crate) fn literal(&mut self) -> Result<Mark, Refused>
+        ensures { Reads (read.literal self.old) result self.new }
+    {
+        let Some((token, rest)) = self.rest.split_first() else {
+            return Err(Refused::Syntax);
+        };
+        match &token.kind {
+            TokenKind::Literal(word) => {
+                let text = word.clone()?;
+                self.rest = rest;
+                Ok(Mark {
+                    text,
+                    span: token.span,
+                })
+            }
+            _ => Err(Refused::Syntax),
+        }
+    }
+
     /// Takes the next token, which must be a decimal literal.
     #[tactic(auto, unfolding(hl_grammar::specs::Read::decimal))]
     pub(crate) fn decimal(&mut self) -> Result<Mark, Refused>
@@ -199,6 +269,20 @@ pub(crate) fn is_keyword(word: &str) -> bool
     ensures { result ≡ is_among keywords word.now }
 {
     word == "fn" || word == "type" || word == "let" || word == "match"
+}
+
+/// Whether a word before `(` is a call's name.
+fn is_call_name(word: &str) -> bool
+    ensures { result ≡ if is_among keywords word.now then false else not (is_among applied_words word.now) }
+{
+    !(is_keyword(word) || word == "unwrap" || word == "Left" || word == "Right" || word == "Some")
+}
+
+/// Whether a word is a variable's name.
+fn is_variable(word: &str) -> bool
+    ensures { result ≡ if is_among keywords word.now then false else not (is_among constants word.now) }
+{
+    !(is_keyword(word) || word == "None" || word == "true" || word == "false")
 }
 
 /// Whether a literal has digits and `_` only.

@@ -2,11 +2,18 @@
 //! a word that wants its next symbol.
 #![tactic(auto)]
 
+mod block;
 mod cursor;
+mod expr;
+mod expr_start;
+mod item;
 mod listed;
-mod parse;
+mod operand;
+mod parser;
 mod pattern;
 mod refused;
+mod side;
+mod turn;
 mod type_text;
 
-pub use parse::{ParseRefusal, parse_type};
+pub use parser::{ParseRefusal, parse, parse_type, parse_value};

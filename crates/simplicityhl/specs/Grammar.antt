@@ -43,7 +43,7 @@ use Rattle.simplicityhl.specs.declared.alternatives.SideAlternative.{SideAlterna
 use Rattle.simplicityhl.specs.declared.alternatives.SideAlternative.TheVariants as side_as
 use Rattle.simplicityhl.specs.Tokens.{are_digits}
 use Rattle.simplicityhl.specs.Cover.{token_text}
-use Rattle.simplicityhl.specs.Parts.{Part, never, done, here, end, one, ◌>>=◌, ◌>>◌, either, one_of, turning, spanned, with_span, chosen, span_between}
+use Rattle.simplicityhl.specs.Parts.{Part, never, too_deep, done, here, end, one, ◌>>=◌, ◌>>◌, either, one_of, turning, spanned, with_span, chosen, span_between}
 
 -- Single tokens.
 
@@ -149,7 +149,7 @@ pattern_level pattern =
     either (parenthesised (λ ps. pattern_of (patterns.Tuple ps)) pattern) (spanned pattern_of (one_of (pattern_form pattern)))
 
 abbrev pub pattern : ℕ → Part Pattern
-pattern zero = never
+pattern zero = too_deep (pattern_level never)
 pattern (suc depth) = pattern_level (pattern depth)
 
 -- Types.
@@ -196,7 +196,7 @@ type_level type =
     either (parenthesised (λ ts. type_of (types.Tuple ts)) type) (spanned type_of (one_of (type_form type)))
 
 abbrev pub type : ℕ → Part TypeText
-type zero = never
+type zero = too_deep (type_level never)
 type (suc depth) = type_level (type depth)
 
 -- Expressions.
@@ -378,7 +378,7 @@ of_values expr_as.Literal = true
 of_values _ = false
 
 abbrev pub expr_of_only : (ExprAlternative → Bool) → ℕ → Part Expr
-expr_of_only allowed zero = never
+expr_of_only allowed zero = too_deep (expr_level never never never allowed)
 expr_of_only allowed (suc depth) = expr_level (expr_of_only allowed depth) (type depth) (pattern depth) allowed
 
 abbrev pub expr : ℕ → Part Expr
@@ -408,7 +408,7 @@ alias depth = with_span (do
 
 -- a function's body counts as an expression
 abbrev pub body : ℕ → Part Expr
-body zero = never
+body zero = too_deep (spanned expr_of (block never never never))
 body (suc depth) = spanned expr_of (block (expr depth) (type depth) (pattern depth))
 
 abbrev pub result_and_body : ℕ → Part (Option TypeText × Expr)

@@ -4,4 +4,5 @@ pub mod Kinds
 pub mod Laws
 pub mod Parts
 pub mod Tokens
+pub mod Viable
 pub mod Written

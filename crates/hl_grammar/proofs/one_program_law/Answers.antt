@@ -1,8 +1,8 @@
 use Rattle.simplicityhl.specs.Grammar as grammar
 use Rattle.hl_grammar.specs.Read as read
-use Rattle.hl_grammar.proofs.Programs.{program-exact}
+use Rattle.hl_grammar.proofs.Programs.{program_at}
 use Rattle.hl_grammar.proofs.Whole.{one_tree}
 use Rattle.hl_grammar.proofs.one_program_law.Goals as goal
 
 pub returns : goal.returns
-returns c = one_tree grammar.program read.program program-exact
+returns c = one_tree grammar.program read.program program_at

@@ -1,3 +1,5 @@
+mod trees;
+
 use super::*;
 use hl_lex::tokens;
 use hl_syntax::TypeForm;
@@ -62,13 +64,13 @@ fn shown(alloc: Global, text: &str) -> Result<String, AllocError> {
     Ok(shown)
 }
 
-/// A type in so many parentheses.
-fn nested(alloc: Global, count: usize) -> Result<String, AllocError> {
+/// A text in so many parentheses.
+fn nested(alloc: Global, inner: &str, count: usize) -> Result<String, AllocError> {
     let mut text = String::new(alloc);
     for _ in 0..count {
         text.push_str("(")?;
     }
-    text.push_str("u8")?;
+    text.push_str(inner)?;
     for _ in 0..count {
         text.push_str(")")?;
     }
@@ -86,10 +88,10 @@ fn types_of_rows(rt: HostRuntime) -> Result<(), Fail> {
 
 #[test]
 fn types_as_deep_as_may_be(rt: HostRuntime) -> Result<(), Fail> {
-    let deep = nested(rt.alloc(), 127)?;
+    let deep = nested(rt.alloc(), "u8", 127)?;
     let got = shown(rt.alloc(), deep.as_str())?;
     assert_eq!(rt; got.as_str(), "Name 127..129", "127 pairs");
-    let deeper = nested(rt.alloc(), 128)?;
+    let deeper = nested(rt.alloc(), "u8", 128)?;
     let got = shown(rt.alloc(), deeper.as_str())?;
     assert_eq!(rt; got.as_str(), "TooDeep 128..130", "128 pairs");
     Ok(())

@@ -1,0 +1,59 @@
+-- Parts of an expression.
+use Rattle.std.specs.Prelude.{ℕ, Bool, List, []}
+use Rattle.hl_syntax.specs.declared.token.Mark.{Mark}
+use Rattle.hl_syntax.specs.declared.token.Span.{Span}
+use Rattle.hl_syntax.specs.declared.token.Symbol.TheVariants.{CloseParenthesis, Comma, Exclamation}
+use Rattle.hl_syntax.specs.declared.tree.TypeText.{TypeText}
+use Rattle.hl_syntax.specs.declared.tree.Pattern.{Pattern}
+use Rattle.hl_syntax.specs.declared.tree.Side.{Side}
+use Rattle.hl_syntax.specs.declared.tree.Arm.{Arm}
+use Rattle.hl_syntax.specs.declared.tree.Expr.{Expr}
+use Rattle.hl_syntax.specs.declared.tree.ExprForm.{ExprForm}
+use Rattle.hl_grammar.specs.Readers.{Reader, done, ◌>>=◌, ◌>>◌, choose, turning}
+use Rattle.hl_grammar.specs.Read.{is_at, symbol, word, in_parentheses, type_argument, path_name, counted_function, two_arguments, block_turn, arms_turn}
+use Rattle.hl_grammar.specs.Read as read
+
+-- a part of an expression, by what the expressions, types and patterns in it are
+abbrev pub within : {A : Type 0} → (Reader Expr → Reader TypeText → Reader Pattern → A) → Bool → ℕ → A
+within part values_only depth = part (read.expr_of_only values_only depth) (read.type depth) (read.pattern depth)
+
+-- `)`, with or without a comma before it
+abbrev pub closed : {A : Type 0} → A → Reader A
+closed a = choose (is_at Comma) (symbol Comma >> (symbol CloseParenthesis >> done a)) (symbol CloseParenthesis >> done a)
+
+-- an arm without its comma, once its span is known, and whether its body is written as a block
+abbrev pub arm_of : Side × Expr × Bool → (Span → Arm) × Bool
+arm_of a = ((λ span. record { side = a.0; body = a.1; span = span }), a.2)
+
+module _ (expr : Reader Expr) (type : Reader TypeText) (pattern : Reader Pattern) where
+  -- a word, and an expression in parentheses
+  abbrev pub applied : List ℕ → (Expr → ExprForm) → Reader ExprForm
+  applied w form = word w >> (in_parentheses expr type pattern >>= (λ e. done (form e)))
+
+  -- the same with `!` after the word
+  abbrev pub exclaimed : List ℕ → (Expr → ExprForm) → Reader ExprForm
+  exclaimed w form = word w >> (symbol Exclamation >> (in_parentheses expr type pattern >>= (λ e. done (form e))))
+
+  -- the same with a type after the word
+  abbrev pub typed : List ℕ → (TypeText → Expr → ExprForm) → Reader ExprForm
+  typed w form = word w >> (type_argument expr type pattern >>= (λ t. in_parentheses expr type pattern >>= (λ e. done (form t e))))
+
+  -- the last of two arguments
+  abbrev pub last_argument : (Expr → Expr × Expr) → Reader (Expr × Expr)
+  last_argument pair = expr >>= (λ b. closed (pair b))
+
+  -- a word with a name in its path
+  abbrev pub named : List ℕ → (Mark → ExprForm) → Reader ExprForm
+  named w form = word w >> (path_name expr type pattern >>= (λ n. done (form n)))
+
+  -- a word with a function and a count, and two arguments
+  abbrev pub counted : List ℕ → (Mark → Mark → Expr → Expr → ExprForm) → Reader ExprForm
+  counted w form = word w >> (counted_function expr type pattern >>= (λ f. two_arguments expr type pattern >>= (λ es. done (form f.0 f.1 es.0 es.1))))
+
+  -- a block after its brace
+  abbrev pub statements : Reader ExprForm
+  statements = turning (block_turn expr type pattern) []
+
+  -- the arms of a match after their brace
+  abbrev pub more_arms : Reader (List Arm)
+  more_arms = turning (arms_turn expr type pattern) []
