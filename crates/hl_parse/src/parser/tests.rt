@@ -1,3 +1,4 @@
+mod dead;
 mod trees;
 
 use super::*;
