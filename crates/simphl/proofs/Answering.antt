@@ -1,5 +1,5 @@
 -- What writing a composed text makes of the answer.
-use Rattle.std.proofs.Common.{◌≡◌, inl, inr, ℕ, List, [], Option, Some, None, Ok, Err, refl, sym, ap, append-nil}
+use Rattle.std.proofs.Common.{◌≡◌, inl, inr, ℕ, List, [], length, Option, Some, None, Ok, Err, refl, sym, ap, append-nil}
 use Rattle.outside.specs.Files.{Held}
 use Rattle.outside.specs.Sink.{Gained}
 use Rattle.simphl.specs.declared.status.Status.{Status}
@@ -7,9 +7,10 @@ use Rattle.simphl.specs.declared.status.Status.TheVariants.{Done, SourceRefused,
 use Rattle.simphl.specs.Answer.{SinkState, IsAllowed, outcome, IsAnswer, on_err, on_out, Took}
 use Rattle.simphl.specs.Answered.{IsPut, IsDelivered}
 use Rattle.hl_syntax.specs.declared.token.Span.{Span}
+use Rattle.hl_syntax.specs.declared.token.Token.{Token}
 use Rattle.simplicityhl.specs.Tokens.{Fault, Lexed, tokens}
 use Rattle.simplicityhl.specs.Tokens as fault
-use Rattle.simphl.specs.Outcome.{IsOutcome, IsSourceOutcome, IsSmallOutcome, IsLexedOutcome, IsFault, source, is_text}
+use Rattle.simphl.specs.Outcome.{IsOutcome, IsSourceOutcome, IsSmallOutcome, IsParsedOutcome, IsLexedOutcome, IsFault, parsed, source, is_text}
 use Rattle.simphl.specs.Words.{Reading}
 
 gained_nothing : (contents : Option (List ℕ)) → Gained contents contents []
@@ -27,12 +28,15 @@ no_write_fault fault.literal_too_large span out err is = let e : WriteFault ≡ 
 no_write_small : {text asked out err : List ℕ} → IsSmallOutcome text asked WriteFault out err → ⊥
 no_write_small s = elim s [ ]
 
-no_write_lexed : (lexed : Lexed) (text asked out err : List ℕ) → IsLexedOutcome lexed (IsSmallOutcome text asked) WriteFault out err → ⊥
-no_write_lexed (Ok found) text asked out err is = no_write_small is
-no_write_lexed (Err r) text asked out err is = no_write_fault r.fault r.span out err is
+no_write_parsed : {found : List Token} {end : ℕ} {text asked out err : List ℕ} → IsParsedOutcome found end (IsSmallOutcome text asked) WriteFault out err → ⊥
+no_write_parsed (parsed tree is small) = no_write_small small
+
+no_write_lexed : (lexed : Lexed) (end : ℕ) (text asked out err : List ℕ) → IsLexedOutcome lexed end (IsSmallOutcome text asked) WriteFault out err → ⊥
+no_write_lexed (Ok found) end text asked out err is = no_write_parsed is
+no_write_lexed (Err r) end text asked out err is = no_write_fault r.fault r.span out err is
 
 no_write_source : {text asked out err : List ℕ} → IsSourceOutcome text asked WriteFault out err → ⊥
-no_write_source {text} {asked} {out} {err} (is_text utf8 lexed) = no_write_lexed (tokens text) text asked out err lexed
+no_write_source {text} {asked} {out} {err} (is_text utf8 lexed) = no_write_lexed (tokens text) (length text) text asked out err lexed
 
 no_write_outcome : {reading : Reading} {file : Option (List ℕ)} {out err : List ℕ} → IsOutcome reading file WriteFault out err → ⊥
 no_write_outcome (source few s) = no_write_source s

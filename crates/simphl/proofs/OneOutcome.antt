@@ -1,15 +1,21 @@
 -- What the words ask for and what the file holds have one outcome.
-use Rattle.std.proofs.Common.{◌≡◌, ℕ, ◌+◌, ◌<◌, List, length, Option, Some, None, Ok, Err, refl, sym, ap, ◌∙◌, arith, codes, IsUtf8, subst}
+use Rattle.std.proofs.Common.{◌≡◌, ℕ, ◌+◌, ◌<◌, List, [], ◌∷◌, ◌++◌, length, Option, Some, None, Ok, Err, refl, sym, ap, ◌∙◌, arith, codes, IsUtf8, subst}
 use Rattle.std.proofs.Math.Seq.{take-length}
+use Rattle.std.proofs.lemmas.List.{append_assoc}
 use Rattle.std.specs.Str.{IsValidUpTo}
 use Rattle.hl_syntax.specs.declared.token.Span as token
+use Rattle.hl_syntax.specs.declared.token.Token.{Token}
+use Rattle.hl_syntax.specs.declared.tree.Item.{Item}
+use Rattle.simplicityhl.specs.Grammar.{Stands, most_depth, program}
 use Rattle.simplicityhl.specs.Tokens.{Fault, Lexed, tokens}
 use Rattle.simplicityhl.specs.Tokens as fault
+use Rattle.simplicityhl.specs.Viable.{IsFirstDeep, IsSyntaxError}
+use Rattle.hl_grammar.specs.Laws.{HasFronts}
 use Rattle.small_source.specs.Small.{Small, IsSmall}
 use Rattle.small_source.proofs.Complete.{one_function}
 use Rattle.small_terms.specs.Result.{Span, first_unknown}
 use Rattle.simphl.specs.declared.status.Status.{Status}
-use Rattle.simphl.specs.Outcome.{IsOutcome, IsSourceOutcome, IsSmallOutcome, IsLexedOutcome, IsFault, OutcomeIsOne, words_refused, not_held, too_long, source, not_utf8, is_text, not_small, unknown_name, built}
+use Rattle.simphl.specs.Outcome.{IsOutcome, IsSourceOutcome, IsSmallOutcome, IsParsedOutcome, IsLexedOutcome, IsFault, OutcomeIsOne, too_deep, syntax, parsed, words_refused, not_held, too_long, source, not_utf8, is_text, not_small, unknown_name, built}
 use Rattle.simphl.specs.Texts.{source_line}
 use Rattle.simphl.specs.Words.{Reading}
 
@@ -58,9 +64,33 @@ one_small {text} {asked} (built build b) (unknown_name g small unknown c d) =
     cc
 one_small (built build b) (built build' d) = (refl, b ∙ sym d)
 
-one_lexed : (lexed : Lexed) (text asked : List ℕ) (s t : Status) (o p e f : List ℕ) → IsLexedOutcome lexed (IsSmallOutcome text asked) s o e → IsLexedOutcome lexed (IsSmallOutcome text asked) t p f → IsOne s t e f
-one_lexed (Ok found) text asked s t o p e f a b = one_small a b
-one_lexed (Err r) text asked s t o p e f a b = one_fault r.fault r.span s t o p e f a b
+-- tokens that go too deep are no program as deep as is allowed, nor are they dead at a place alone
+deep_tree : HasFronts program → (ts : List Token) (at : token.Span) (tree : List Item) → IsFirstDeep program ts at → Stands program most_depth ts tree → ⊥
+deep_tree law ts at tree f is = law.too_far (f.before ++ f.token ∷ []) f.after tree f.deep (subst (λ us. Stands program most_depth us tree) (f.are ∙ sym (append_assoc f.before (f.token ∷ []) f.after)) is)
+
+deep_dead : (ts : List Token) (end : ℕ) (at dead : token.Span) → IsFirstDeep program ts at → IsSyntaxError program ts end dead → ⊥
+deep_dead ts end at dead f e = e.shallow (f.before ++ f.token ∷ []) f.after (f.are ∙ sym (append_assoc f.before (f.token ∷ []) f.after)) f.deep
+
+dead_tree : (ts : List Token) (end : ℕ) (at : token.Span) (tree : List Item) → IsSyntaxError program ts end at → Stands program most_depth ts tree → ⊥
+dead_tree ts end at tree e is = e.none tree (most_depth, is)
+
+same_place : (a b : token.Span) → a ≡ b → source_line (codes "Syntax") a.start a.end ≡ source_line (codes "Syntax") b.start b.end
+same_place a b same = ap (λ (at : token.Span). source_line (codes "Syntax") at.start at.end) same
+
+one_parsed : HasFronts program → {found : List Token} {end : ℕ} {text asked : List ℕ} {s t : Status} {o p e f : List ℕ} → IsParsedOutcome found end (IsSmallOutcome text asked) s o e → IsParsedOutcome found end (IsSmallOutcome text asked) t p f → IsOne s t e f
+one_parsed law (too_deep i deep a b) (too_deep j deep' c d) = (refl, b ∙ sym d)
+one_parsed law {found} {end} (too_deep i deep a b) (syntax j dead c d) = absurd (deep_dead found end i j deep dead)
+one_parsed law {found} (too_deep i deep a b) (parsed tree is small) = absurd (deep_tree law found i tree deep is)
+one_parsed law {found} {end} (syntax i dead a b) (too_deep j deep c d) = absurd (deep_dead found end j i deep dead)
+one_parsed law {found} {end} (syntax i dead a b) (syntax j dead' c d) = (refl, b ∙ same_place i j (law.one_place found end i j dead.dead dead'.dead) ∙ sym d)
+one_parsed law {found} {end} (syntax i dead a b) (parsed tree is small) = absurd (dead_tree found end i tree dead is)
+one_parsed law {found} (parsed tree is small) (too_deep j deep c d) = absurd (deep_tree law found j tree deep is)
+one_parsed law {found} {end} (parsed tree is small) (syntax j dead c d) = absurd (dead_tree found end j tree dead is)
+one_parsed law (parsed tree is small) (parsed tree' is' small') = one_small small small'
+
+one_lexed : HasFronts program → (lexed : Lexed) (end : ℕ) (text asked : List ℕ) (s t : Status) (o p e f : List ℕ) → IsLexedOutcome lexed end (IsSmallOutcome text asked) s o e → IsLexedOutcome lexed end (IsSmallOutcome text asked) t p f → IsOne s t e f
+one_lexed law (Ok found) end text asked s t o p e f a b = one_parsed law a b
+one_lexed law (Err r) end text asked s t o p e f a b = one_fault r.fault r.span s t o p e f a b
 
 -- the longest front that is UTF-8 is one
 no_longer : (text : List ℕ) (at : ℕ) → IsValidUpTo text at → ¬ IsUtf8 text
@@ -73,19 +103,19 @@ one_front text i j a b =
     let two : ¬ (j < i) = λ less. b.longest i less a.front in
     omega (arith, one, two)
 
-one_source : {text asked : List ℕ} {s t : Status} {o p e f : List ℕ} → IsSourceOutcome text asked s o e → IsSourceOutcome text asked t p f → IsOne s t e f
-one_source {text} (not_utf8 i valid a b) (not_utf8 j valid' c d) = (refl, b ∙ ap (λ n. source_line (codes "NotUtf8") n (n + 1)) (one_front text i j valid valid') ∙ sym d)
-one_source {text} (not_utf8 i valid a b) (is_text utf8 lexed) = absurd (no_longer text i valid utf8)
-one_source {text} (is_text utf8 lexed) (not_utf8 i valid a b) = absurd (no_longer text i valid utf8)
-one_source {text} {asked} {s} {t} {o} {p} {e} {f} (is_text utf8 lexed) (is_text utf8' lexed') = one_lexed (tokens text) text asked s t o p e f lexed lexed'
+one_source : HasFronts program → {text asked : List ℕ} {s t : Status} {o p e f : List ℕ} → IsSourceOutcome text asked s o e → IsSourceOutcome text asked t p f → IsOne s t e f
+one_source law {text} (not_utf8 i valid a b) (not_utf8 j valid' c d) = (refl, b ∙ ap (λ n. source_line (codes "NotUtf8") n (n + 1)) (one_front text i j valid valid') ∙ sym d)
+one_source law {text} (not_utf8 i valid a b) (is_text utf8 lexed) = absurd (no_longer text i valid utf8)
+one_source law {text} (is_text utf8 lexed) (not_utf8 i valid a b) = absurd (no_longer text i valid utf8)
+one_source law {text} {asked} {s} {t} {o} {p} {e} {f} (is_text utf8 lexed) (is_text utf8' lexed') = one_lexed law (tokens text) (length text) text asked s t o p e f lexed lexed'
 
-one_of : {reading : Reading} {file : Option (List ℕ)} {s t : Status} {o p e f : List ℕ} → IsOutcome reading file s o e → IsOutcome reading file t p f → IsOne s t e f
-one_of (words_refused a b) (words_refused c d) = (refl, b ∙ sym d)
-one_of (not_held a b) (not_held c d) = (refl, b ∙ sym d)
-one_of (too_long long a b) (too_long long' c d) = (refl, b ∙ sym d)
-one_of (too_long long a b) (source few is) = absurd (omega (arith, long, few))
-one_of (source few is) (too_long long a b) = absurd (omega (arith, long, few))
-one_of (source few is) (source few' is') = one_source is is'
+one_of : HasFronts program → {reading : Reading} {file : Option (List ℕ)} {s t : Status} {o p e f : List ℕ} → IsOutcome reading file s o e → IsOutcome reading file t p f → IsOne s t e f
+one_of law (words_refused a b) (words_refused c d) = (refl, b ∙ sym d)
+one_of law (not_held a b) (not_held c d) = (refl, b ∙ sym d)
+one_of law (too_long long a b) (too_long long' c d) = (refl, b ∙ sym d)
+one_of law (too_long long a b) (source few is) = absurd (omega (arith, long, few))
+one_of law (source few is) (too_long long a b) = absurd (omega (arith, long, few))
+one_of law (source few is) (source few' is') = one_source law is is'
 
-pub one_outcome : OutcomeIsOne
-one_outcome reading file s t o p e f a b = one_of a b
+pub one_outcome : HasFronts program → OutcomeIsOne
+one_outcome law reading file s t o p e f a b = one_of law a b

@@ -2,8 +2,12 @@
 use Rattle.std.specs.Prelude.{◌≡◌, ℕ, ◌+◌, ◌<◌, ◌≤◌, List, [], length, Option, Some, None, Ok, Err, codes, IsUtf8}
 use Rattle.std.specs.Str.{IsValidUpTo}
 use Rattle.hl_syntax.specs.declared.token.Span.{Span}
+use Rattle.hl_syntax.specs.declared.token.Token.{Token}
+use Rattle.hl_syntax.specs.declared.tree.Item.{Item}
+use Rattle.simplicityhl.specs.Grammar.{Stands, most_depth, program}
 use Rattle.simplicityhl.specs.Tokens.{Fault, Lexed, tokens}
 use Rattle.simplicityhl.specs.Tokens as fault
+use Rattle.simplicityhl.specs.Viable.{IsFirstDeep, IsSyntaxError}
 use Rattle.small_source.specs.Small.{Small, IsSmall}
 use Rattle.small_terms.specs.Result.{first_unknown}
 use Rattle.simphl.specs.declared.status.Status.{Status}
@@ -16,7 +20,7 @@ use Rattle.simphl.specs.Build.{IsBuild}
 abbrev pub most_source : ℕ
 most_source = 262144
 
--- of a text whose tokens can be read
+-- of a text that is a program
 pub data IsSmallOutcome (text asked : List ℕ) : Status → List ℕ → List ℕ → Type 0 where
   not_small : {out err : List ℕ} → ((f : Small) → ¬ IsSmall text asked f) → out ≡ [] → err ≡ source_line (codes "NotYet") 0 0 → IsSmallOutcome text asked status.SourceRefused out err
   unknown_name : {out err : List ℕ} {start count : ℕ} (f : Small) → IsSmall text asked f → first_unknown f.parameters f.body ≡ Some (start, count) → out ≡ [] → err ≡ source_line (codes "K4") start (start + count) → IsSmallOutcome text asked status.SourceRefused out err
@@ -28,15 +32,21 @@ IsFault fault.bad_character span answer out err = (answer ≡ status.SourceRefus
 IsFault fault.open_comment span answer out err = (answer ≡ status.SourceRefused) × (out ≡ []) × (err ≡ source_line (codes "OpenComment") span.start span.end)
 IsFault fault.literal_too_large span answer out err = (answer ≡ status.LimitReached) × (out ≡ []) × (err ≡ limit_line (codes "L3"))
 
--- of a text by its tokens or its first fault
-abbrev pub IsLexedOutcome : Lexed → (Status → List ℕ → List ℕ → Type 0) → Status → List ℕ → List ℕ → Type 0
-IsLexedOutcome (Ok found) Next answer out err = Next answer out err
-IsLexedOutcome (Err refusal) Next answer out err = IsFault refusal.fault refusal.span answer out err
+-- of tokens, in a text that ends there: something in them is nested too deep, or they are no program, or they are one
+pub data IsParsedOutcome (found : List Token) (end : ℕ) (Next : Status → List ℕ → List ℕ → Type 0) : Status → List ℕ → List ℕ → Type 0 where
+  too_deep : {out err : List ℕ} (at : Span) → IsFirstDeep program found at → out ≡ [] → err ≡ limit_line (codes "L2") → IsParsedOutcome found end Next status.LimitReached out err
+  syntax : {out err : List ℕ} (at : Span) → IsSyntaxError program found end at → out ≡ [] → err ≡ source_line (codes "Syntax") at.start at.end → IsParsedOutcome found end Next status.SourceRefused out err
+  parsed : {answer : Status} {out err : List ℕ} (tree : List Item) → Stands program most_depth found tree → Next answer out err → IsParsedOutcome found end Next answer out err
+
+-- of a text that ends there, by its tokens or its first fault
+abbrev pub IsLexedOutcome : Lexed → ℕ → (Status → List ℕ → List ℕ → Type 0) → Status → List ℕ → List ℕ → Type 0
+IsLexedOutcome (Ok found) end Next answer out err = IsParsedOutcome found end Next answer out err
+IsLexedOutcome (Err refusal) end Next answer out err = IsFault refusal.fault refusal.span answer out err
 
 -- of the bytes of a source: they are refused from the longest front on that is UTF-8, or they are text
 pub data IsSourceOutcome (text asked : List ℕ) : Status → List ℕ → List ℕ → Type 0 where
   not_utf8 : {out err : List ℕ} (at : ℕ) → IsValidUpTo text at → out ≡ [] → err ≡ source_line (codes "NotUtf8") at (at + 1) → IsSourceOutcome text asked status.SourceRefused out err
-  is_text : {answer : Status} {out err : List ℕ} → IsUtf8 text → IsLexedOutcome (tokens text) (IsSmallOutcome text asked) answer out err → IsSourceOutcome text asked answer out err
+  is_text : {answer : Status} {out err : List ℕ} → IsUtf8 text → IsLexedOutcome (tokens text) (length text) (IsSmallOutcome text asked) answer out err → IsSourceOutcome text asked answer out err
 
 -- what the words ask for and what the file holds give this status, this text on `out` and this one on `err`
 pub data IsOutcome : Reading → Option (List ℕ) → Status → List ℕ → List ℕ → Type 0 where

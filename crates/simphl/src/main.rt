@@ -12,10 +12,10 @@ mod top;
 mod words;
 
 use outside::{HostFiles, StdSink};
-use status::Status;
 use std::env;
 use std::io::ErrorKind;
 use std::process::ExitCode;
+use top::{refuse_words, simphl};
 
 // The status where the system doesn't give the words as text.
 const WORDS_ARE_NO_TEXT: u8 = 10;
@@ -27,14 +27,14 @@ fn main(rt: HostRuntime) -> ExitCode {
     let words: Vec<String> = match env::args(&rt) {
         Ok(args) => match args.skip(1).collect(alloc) {
             Ok(words) => words,
-            Err(_) => return ExitCode::from(Status::NoMemory.number()),
+            Err(_) => return ExitCode::from(refuse_words(&mut err).number()),
         },
         Err(error) if error.kind() == ErrorKind::OutOfMemory => {
-            return ExitCode::from(Status::NoMemory.number());
+            return ExitCode::from(refuse_words(&mut err).number());
         }
         Err(_) => return ExitCode::from(WORDS_ARE_NO_TEXT),
     };
     let mut files = HostFiles::new(rt);
-    let status = top::simphl(alloc, words.as_slice(), &mut files, &mut out, &mut err);
+    let status = simphl(alloc, words.as_slice(), &mut files, &mut out, &mut err);
     ExitCode::from(status.number())
 }

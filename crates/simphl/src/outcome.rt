@@ -10,6 +10,7 @@ use crate::source::compose_source;
 use crate::status::Status;
 use crate::texts::{limit_text, read_text, words_text};
 use crate::words::{Asked, read_words};
+use hl_grammar::program_fronts_law;
 use outside::{FileRefusal, Files};
 use std::alloc::{AllocError, Global};
 
@@ -80,4 +81,6 @@ fn compose_fault(alloc: Global, file: &str) -> Result<Outcome, AllocError>
 /// The law that an outcome is one: its status, and its text for standard error.
 pub fn one_outcome()
     ensures { OutcomeIsOne }
-{}
+{
+    program_fronts_law();
+}

@@ -1,14 +1,15 @@
 //! What comes of a source, before it is written.
 
 ghost use Rattle.std.specs.Prelude.{IfOk, IsUtf8};
-ghost use Rattle.simphl.specs.Answered.{IsRuleOutcome, IsRefusalOutcome, IsLexAs, IsSmallAs, IsSourceAs};
+ghost use Rattle.simphl.specs.Answered.{IsRuleOutcome, IsRefusalOutcome, IsFrontAs, IsSyntaxAs, IsSmallAs, IsSourceAs};
 
 use crate::build::{Built, build};
 use crate::outcome::Outcome;
 use crate::status::Status;
 use crate::texts::{limit_text, source_text};
 use hl_lex::{LexRefusal, tokens};
-use hl_syntax::Span;
+use hl_parse::{ParseRefusal, parse};
+use hl_syntax::{Span, Token};
 use std::alloc::{AllocError, Global};
 
 /// The outcome of building a function from its source.
@@ -35,16 +36,38 @@ fn compose_text(alloc: Global, text: &str, function: &[u8]) -> Result<Outcome, A
     }
 }
 
-/// The outcome of a source whose tokens can't be read; none where they can.
+/// The outcome of a source that is no program; none where it is one.
 fn compose_fault(alloc: Global, text: &str) -> Result<Option<Outcome>, AllocError>
     requires { IsUtf8 text.now }
-    ensures { IfOk result (IsLexAs text.now) }
+    ensures { IfOk result (IsFrontAs text.now) }
 {
-    let Err(refusal) = tokens(alloc, text) else {
+    match tokens(alloc, text) {
+        Ok(tokens) => Ok(compose_syntax(alloc, tokens.as_slice(), text.len() as u64)?),
+        Err(refusal) => {
+            let fault = compose_refusal(alloc, refusal)?;
+            Ok(Some(fault))
+        }
+    }
+}
+
+/// The outcome of tokens that are no program, in a text of so many bytes; none where they are one.
+fn compose_syntax(alloc: Global, tokens: &[Token], end: u64) -> Result<Option<Outcome>, AllocError>
+    ensures { IfOk result (IsSyntaxAs tokens.now end) }
+{
+    let Err(refusal) = parse(alloc, tokens, end) else {
         return Ok(None);
     };
-    let fault = compose_refusal(alloc, refusal)?;
-    Ok(Some(fault))
+    match refusal {
+        ParseRefusal::Syntax { at } => {
+            let fault = compose_span(alloc, "Syntax", at)?;
+            Ok(Some(fault))
+        }
+        ParseRefusal::TooDeep { .. } => {
+            let line = limit_text(alloc, "L2")?;
+            Ok(Some(Outcome::Refused(Status::LimitReached, line)))
+        }
+        ParseRefusal::OutOfMemory => Err(AllocError),
+    }
 }
 
 /// The outcome of a fault of the tokens.
@@ -62,7 +85,7 @@ fn compose_refusal(alloc: Global, refusal: LexRefusal) -> Result<Outcome, AllocE
     }
 }
 
-/// The outcome of building a function from a source whose tokens can be read.
+/// The outcome of building a function from a source that is a program.
 fn compose_small(alloc: Global, text: &[u8], function: &[u8]) -> Result<Outcome, AllocError>
     ensures { IfOk result (IsSmallAs text.now function.now) }
 {

@@ -15,7 +15,7 @@ const MOST_SOURCE: usize = 262_144;
 const SWAP: &str = "fn swap(x: u8, y: u8) -> (u8, u8) { (y, x) }";
 
 /// Each source, the word of its function, the status, and the text on `out` or, of a refusal, on `err`.
-static SOURCES: [(&str, &str, Status, &str); 20] = [
+static SOURCES: [(&str, &str, Status, &str); 26] = [
     ("fn id(x: u8) -> u8 { x }", "fn=id", Status::Done, "IA==\n"),
     (
         "fn second(x: u8, y: u8) -> u8 { y }",
@@ -121,6 +121,43 @@ static SOURCES: [(&str, &str, Status, &str); 20] = [
         "fn=f",
         Status::LimitReached,
         "limit L3\n",
+    ),
+    (
+        "fn f(",
+        "fn=f",
+        Status::SourceRefused,
+        "source Syntax at 5..5\n",
+    ),
+    (
+        "fn f() { let x: u8 = 1 }",
+        "fn=f",
+        Status::SourceRefused,
+        "source Syntax at 23..24\n",
+    ),
+    // A literal too large comes before what the tokens are, and the depth before the syntax.
+    (
+        "fn f( 340282366920938463463374607431768211456",
+        "fn=f",
+        Status::LimitReached,
+        "limit L3\n",
+    ),
+    (
+        "fn f() { ((((((((((((((((((((((((((((((((((((((((((((((((((((((((((((((((((((((((((((((((((((((((((((((((((((((((((((((((((((((((((((((1)))))))))))))))))))))))))))))))))))))))))))))))))))))))))))))))))))))))))))))))))))))))))))))))))))))))))))))))))))))))))))))) }",
+        "fn=f",
+        Status::SourceRefused,
+        "source NotYet at 0..0\n",
+    ),
+    (
+        "fn f() { (((((((((((((((((((((((((((((((((((((((((((((((((((((((((((((((((((((((((((((((((((((((((((((((((((((((((((((((((((((((((((((((1))))))))))))))))))))))))))))))))))))))))))))))))))))))))))))))))))))))))))))))))))))))))))))))))))))))))))))))))))))))))))))))) }",
+        "fn=f",
+        Status::LimitReached,
+        "limit L2\n",
+    ),
+    (
+        "fn f() { (((((((((((((((((((((((((((((((((((((((((((((((((((((((((((((((((((((((((((((((((((((((((((((((((((((((((((((((((((((((((((((((1))))))))))))))))))))))))))))))))))))))))))))))))))))))))))))))))))))))))))))))))))))))))))))))))))))))))))))))))))))))))))))",
+        "fn=f",
+        Status::LimitReached,
+        "limit L2\n",
     ),
 ];
 

@@ -3,7 +3,9 @@
 ghost use Rattle.std.specs.Prelude.{◌≡◌, ◌≤◌};
 ghost use Rattle.simphl.specs.Answer.{IsAllowed, IsAnswer, HasRead};
 ghost use Rattle.simphl.specs.Answered.{IsPut, IsDelivered};
+ghost use Rattle.simphl.specs.Texts.{no_memory_line};
 ghost use Rattle.simphl.specs.Words.{reading, texts};
+ghost use Rattle.simphl.specs.declared.status.Status.TheVariants.{NoMemory};
 
 use crate::outcome::{Outcome, compose};
 use crate::status::Status;
@@ -30,6 +32,13 @@ pub fn simphl<F: Files, O: Sink, E: Sink>(
         Ok(Outcome::Refused(status, text)) => refuse(err, status, text.as_bytes()),
         Err(_) => refuse(err, Status::NoMemory, b"no memory\n"),
     }
+}
+
+/// Answers a command for whose words there is no memory.
+pub fn refuse_words<E: Sink>(err: &mut E) -> Status
+    ensures { IsPut NoMemory (record { contents = E.contents err.old; faults = E.faults err.old }) (record { contents = E.contents err.new; faults = E.faults err.new }) no_memory_line result }
+{
+    refuse(err, Status::NoMemory, b"no memory\n")
 }
 
 /// Puts a text on `out`.

@@ -8,5 +8,5 @@ returns-in-Some c =
 
 pub returns-in_ok-compose_small-in-None : goal.returns-in_ok-compose_small-in-None
 returns-in_ok-compose_small-in-None c =
-    let lexed = rw c.in-None.is at c.in_ok-fault.ensures in
-    read_source c.args.text.now c.args.function.now c.in_ok-compose_small-in-None.field-0 lexed.0 c.requires lexed.1 (rw c.as_bytes.ensures.value at c.in_ok-compose_small-in-None.ensures)
+    let program = rw c.in-None.is at c.in_ok-fault.ensures in
+    read_source c.args.text.now c.args.function.now c.in_ok-compose_small-in-None.field-0 c.requires program (rw c.as_bytes.ensures.value at c.in_ok-compose_small-in-None.ensures)
