@@ -26,27 +26,27 @@ abbrev pub arm_of : Side × Expr × Bool → (Span → Arm) × Bool
 arm_of a = ((λ span. record { side = a.0; body = a.1; span = span }), a.2)
 
 module _ (expr : Reader Expr) (type : Reader TypeText) (pattern : Reader Pattern) where
-  -- a word, and an expression in parentheses
+  -- word "(" expr ")", and what is made of the expression
   abbrev pub applied : List ℕ → (Expr → ExprForm) → Reader ExprForm
   applied w form = word w >> (in_parentheses expr type pattern >>= (λ e. done (form e)))
 
-  -- the same with `!` after the word
+  -- word "!" "(" expr ")"
   abbrev pub exclaimed : List ℕ → (Expr → ExprForm) → Reader ExprForm
   exclaimed w form = word w >> (symbol Exclamation >> (in_parentheses expr type pattern >>= (λ e. done (form e))))
 
-  -- the same with a type after the word
+  -- word "::" "<" type ">" "(" expr ")"
   abbrev pub typed : List ℕ → (TypeText → Expr → ExprForm) → Reader ExprForm
   typed w form = word w >> (type_argument expr type pattern >>= (λ t. in_parentheses expr type pattern >>= (λ e. done (form t e))))
 
-  -- the last of two arguments
+  -- the second of two arguments, and the parenthesis after it
   abbrev pub last_argument : (Expr → Expr × Expr) → Reader (Expr × Expr)
   last_argument pair = expr >>= (λ b. closed (pair b))
 
-  -- a word with a name in its path
+  -- word "::" NAME
   abbrev pub named : List ℕ → (Mark → ExprForm) → Reader ExprForm
   named w form = word w >> (path_name expr type pattern >>= (λ n. done (form n)))
 
-  -- a word with a function and a count, and two arguments
+  -- word "::" "<" NAME "," DECIMAL ">" "(" expr "," expr [ "," ] ")"
   abbrev pub counted : List ℕ → (Mark → Mark → Expr → Expr → ExprForm) → Reader ExprForm
   counted w form = word w >> (counted_function expr type pattern >>= (λ f. two_arguments expr type pattern >>= (λ es. done (form f.0 f.1 es.0 es.1))))
 

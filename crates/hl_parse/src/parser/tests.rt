@@ -1,4 +1,4 @@
-mod dead;
+mod dead_places;
 mod trees;
 
 use super::*;
