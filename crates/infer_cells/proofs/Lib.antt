@@ -1,0 +1,16 @@
+mod Merges
+mod Fitting
+mod Linked
+mod Steps
+mod Leasts
+mod Paths
+mod Doubles
+mod Grown
+mod Ready
+mod Sound
+mod Complete
+mod RowCells
+mod Constraint
+mod Turns
+mod Listed
+mod ShownLists

@@ -1,0 +1,9 @@
+use Rattle.std.proofs.Common.{◌≡◌, length}
+use Rattle.infer_cells.specs.Constrained.{AreRowCells}
+use Rattle.infer_cells.proofs.constrain.row_cells.Given as goal
+
+abbrev pub invariant-loop-id : goal.invariant-loop-id
+invariant-loop-id l = record {
+  rows : AreRowCells l.types l.cells.items;
+  count : length l.cells.items ≡ l.id;
+}

@@ -1,0 +1,7 @@
+pub mod Cells
+pub mod Merged
+pub mod Walk
+pub mod Emission
+pub mod Constrained
+pub mod Typings
+pub mod Ids

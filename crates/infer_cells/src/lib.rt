@@ -1,0 +1,17 @@
+//! The least typing of a list of nodes, by unification.
+#![tactic(auto)]
+
+mod cell;
+mod constrain;
+mod emit;
+mod least;
+mod refusal;
+#[cfg(test)]
+mod tests;
+mod typing;
+mod unify;
+mod walk;
+
+pub use least::infer;
+pub use refusal::InferRefusal;
+pub use typing::{NodeArrow, Typing};
