@@ -43,5 +43,5 @@ abbrev pub row_answer : List HlValue → Row → Answer HlValue
 row_answer arguments row = shaped (numbers_at row.arguments arguments) (λ ns. answer_at row.results (numbers row.jet row.narrow row.wide ns))
 
 -- what the jet of a name gives for its arguments
-abbrev pub jet_answer : List ℕ → List HlValue → Answer HlValue
+unfoldable pub jet_answer : List ℕ → List HlValue → Answer HlValue
 jet_answer name arguments = shaped (find (λ row. bytes_eq name row.name) rows) (row_answer arguments)

@@ -1,5 +1,6 @@
 -- What loops give, by what their function gives.
-use Rattle.std.specs.Prelude.{ℕ, zero, suc, ◌+◌, List, [], ◌∷◌}
+use Rattle.std.specs.Prelude.{ℕ, zero, suc, ◌+◌, Bool, nat_eq, List, [], ◌∷◌}
+use Rattle.std.specs.List.{list_any}
 use Rattle.hl_data.specs.declared.value.HlValue.{HlValue}
 use Rattle.hl_data.specs.declared.value.HlValue.TheOpen.{HlValue-F}
 use Rattle.hl_data.specs.declared.value.HlValue.TheVariants as value
@@ -21,6 +22,10 @@ abbrev pub go_on : (HlValue → Answer HlValue) → HlValue-F HlValue → Answer
 go_on next (HlValue-F.Left v) = gives (value.Left v)
 go_on next (HlValue-F.Right v) = next v
 go_on next _ = stuck
+
+-- the widths of a counter
+abbrev pub is_counter_width : ℕ → Bool
+is_counter_width width = list_any (nat_eq width) (1 ∷ 2 ∷ 4 ∷ 8 ∷ 16 ∷ [])
 
 abbrev pub counted : Calls → (width : ℕ) (context : HlValue) (turns counter : ℕ) → HlValue → Answer HlValue
 counted f width context zero counter made = gives (value.Right made)

@@ -2,11 +2,13 @@
 --
 -- The parts of an expression are evaluated from the left. A match evaluates the arm of its value alone. If a part that is evaluated
 -- fails, the whole fails. A function's body sees the functions before it and its parameters.
-use Rattle.std.specs.Prelude.{ℕ, ◌^◌, true, false, List, [], ◌∷◌, ◌++◌, bytes_eq, find, fold, Option, Some, None, option_map, option_and_then}
+use Rattle.std.specs.Prelude.{ℕ, ◌^◌, Bool, true, false, ◌&&◌, List, [], ◌∷◌, ◌++◌, bytes_eq, find, map, Option, Some, None, option_and_then, if◌then◌else◌}
+use Rattle.hl_data.specs.declared.typed.TypedArm.{TypedArm}
 use Rattle.hl_data.specs.declared.typed.TypedExpr.{TypedExpr}
-use Rattle.hl_data.specs.declared.typed.TypedForm.TheFolds.{fold-TypedExpr}
-use Rattle.hl_data.specs.declared.typed.TypedForm.TheOpen.{TypedForm-F, TypedStatement-F}
+use Rattle.hl_data.specs.declared.typed.TypedForm.TheFolds.{fold-TypedExpr, fold-TypedStatement, fold-TypedArm}
+use Rattle.hl_data.specs.declared.typed.TypedForm.TheOpen.{TypedForm-F, TypedStatement-F, TypedArm-F, TypedExpr-F}
 use Rattle.hl_data.specs.declared.typed.TypedFunction.{TypedFunction}
+use Rattle.hl_data.specs.declared.typed.TypedStatement.{TypedStatement}
 use Rattle.hl_data.specs.declared.typed.TypedSide.{TypedSide}
 use Rattle.hl_data.specs.declared.typed.TypedSide.TheVariants as sides
 use Rattle.hl_data.specs.declared.value.HlValue.{HlValue}
@@ -20,9 +22,10 @@ use Rattle.hl_syntax.specs.declared.kinds.TypedName.{TypedName}
 use Rattle.hl_meaning.specs.Answer.{Answer, gives, fails, stuck, and_then, shaped, known}
 use Rattle.hl_meaning.specs.Jets.{jet_answer}
 use Rattle.hl_meaning.specs.Literals.{literal_value}
-use Rattle.hl_meaning.specs.Loops.{Calls, folded, counted}
-use Rattle.hl_meaning.specs.Scopes.{Binding, Scope, meant, bound}
-use Rattle.hl_meaning.specs.Values.{encoded, decoded, word_of}
+use Rattle.hl_meaning.specs.Loops.{Calls, folded, counted, is_counter_width}
+use Rattle.hl_meaning.specs.Scopes.{Binding, Scope, Binder, meant, bound, each_bound}
+use Rattle.hl_meaning.specs.Values.{encoded, decoded, is_sound, same_kind, word_at}
+use Rattle.simplicityhl.specs.Kinds.{form}
 
 -- a function by its name: its parameters, and what it gives for their values
 pub record Function : Type 0 where
@@ -76,12 +79,16 @@ none_tested _ = stuck
 
 -- a literal at a type of numbers
 abbrev pub number_at : HlType-F HlType → List ℕ → Answer HlValue
-number_at (HlType-F.UInt width) word = gives (word_of width (literal_value word))
+number_at (HlType-F.UInt width) word = known (word_at width (literal_value word))
 number_at _ word = stuck
 
--- a value of one type as the value of another that has the same encoding
+-- whether both types are sound and have the same form
+abbrev pub are_alike : HlType → HlType → Bool
+are_alike from to = is_sound from && (is_sound to && same_kind (form from) (form to))
+
+-- a value of one type as the value of another of the same form that has the same encoding
 abbrev pub converted : HlType → HlType → HlValue → Answer HlValue
-converted from to v = known (option_and_then (decoded to) (encoded v from))
+converted from to v = if are_alike from to then known (option_and_then (decoded to) (encoded v from)) else stuck
 
 -- the items of a list, of an array
 abbrev pub items_in_list : HlValue-F HlValue → Option (List HlValue)
@@ -94,7 +101,7 @@ items_in_array _ = None
 
 -- the width of a loop's counter, the third parameter of its function
 abbrev pub number_width : HlType-F HlType → Option ℕ
-number_width (HlType-F.UInt width) = Some width
+number_width (HlType-F.UInt width) = if is_counter_width width then Some width else None
 number_width _ = None
 
 abbrev pub counter_width : List TypedName → Option ℕ
@@ -138,10 +145,11 @@ block_of [] last = last_of last
 block_of (s ∷ ss) last = s (block_of ss last)
 
 -- the parameters of a call as its scope
+abbrev pub named : TypedName → Binder
+named p v = Some (record { name = p.name; value = v } ∷ [])
+
 abbrev pub scope_of : List TypedName → List HlValue → Option Scope
-scope_of [] [] = Some []
-scope_of (p ∷ ps) (v ∷ vs) = option_map (λ rest. record { name = p.name; value = v } ∷ rest) (scope_of ps vs)
-scope_of _ _ = None
+scope_of params arguments = each_bound (map named params) arguments
 
 module _ (functions : List Function) (witness : List Binding) where
   -- the function of a name
@@ -153,11 +161,11 @@ module _ (functions : List Function) (witness : List Binding) where
 
   abbrev pub loop_over : (HlValue-F HlValue → Option (List HlValue)) → List ℕ → Meaning → Meaning → Meaning
   loop_over items_in name items start scope =
-      and_then (items scope) (λ v. and_then (start scope) (λ made. shaped (function_of name) (λ f. shaped (items_in (out-HlValue v)) (λ found. folded f.run found made))))
+      shaped (function_of name) (λ f. and_then (items scope) (λ v. and_then (known (items_in (out-HlValue v))) (λ found. and_then (start scope) (folded f.run found))))
 
   abbrev pub counting_loop : List ℕ → Meaning → Meaning → Meaning
   counting_loop name start context scope =
-      and_then (start scope) (λ made. and_then (context scope) (λ given. shaped (function_of name) (λ f. shaped (counter_width f.params) (λ width. counted f.run width given (2 ^ width) 0 made))))
+      shaped (function_of name) (λ f. and_then (known (counter_width f.params)) (λ width. and_then (start scope) (λ made. and_then (context scope) (λ given. counted f.run width given (2 ^ width) 0 made))))
 
   abbrev pub form_step : TypedForm-F (HlType → Meaning) StatementMeaning ArmMeaning Meaning → HlType → Meaning
   form_step (TypedForm-F.Block ss last) kind = block_of ss last
@@ -194,9 +202,22 @@ module _ (functions : List Function) (witness : List Binding) where
   statement_step (TypedStatement-F.Let pattern kind e) = λ after scope. and_then (e scope) (λ v. shaped (bound pattern v) (λ new. after (new ++ scope)))
   statement_step (TypedStatement-F.Plain e) = λ after scope. and_then (e scope) (λ v. after scope)
 
+  abbrev pub arm_step : TypedArm-F (HlType → Meaning) StatementMeaning ArmMeaning Meaning → ArmMeaning
+  arm_step arm = record { side = arm.side; body = arm.body }
+
+  abbrev pub expression_step : TypedExpr-F (HlType → Meaning) StatementMeaning ArmMeaning Meaning → Meaning
+  expression_step e = e.form e.kind
+
   -- an expression
-  abbrev pub mean : TypedExpr → Meaning
-  mean e = fold-TypedExpr (HlType → Meaning) StatementMeaning ArmMeaning Meaning form_step statement_step (λ arm. record { side = arm.side; body = arm.body }) (λ e. e.form e.kind) e
+  unfoldable pub mean : TypedExpr → Meaning
+  mean e = fold-TypedExpr (HlType → Meaning) StatementMeaning ArmMeaning Meaning form_step statement_step arm_step expression_step e
+
+  -- a statement, and an arm
+  unfoldable pub mean_statement : TypedStatement → StatementMeaning
+  mean_statement s = fold-TypedStatement (HlType → Meaning) StatementMeaning ArmMeaning Meaning form_step statement_step arm_step expression_step s
+
+  unfoldable pub mean_arm : TypedArm → ArmMeaning
+  mean_arm a = fold-TypedArm (HlType → Meaning) StatementMeaning ArmMeaning Meaning form_step statement_step arm_step expression_step a
 
 -- Functions: each sees those before it.
 
@@ -207,8 +228,12 @@ function_after witness before f = record {
   run = λ arguments. shaped (scope_of f.params arguments) (mean before witness f.body);
 }
 
-abbrev pub functions_of : List Binding → List TypedFunction → List Function
-functions_of witness fs = fold (λ before f. before ++ function_after witness before f ∷ []) [] fs
+abbrev pub functions_after : List Binding → List Function → List TypedFunction → List Function
+functions_after witness before [] = []
+functions_after witness before (f ∷ fs) = let first = function_after witness before f in first ∷ functions_after witness (before ++ first ∷ []) fs
+
+unfoldable pub functions_of : List Binding → List TypedFunction → List Function
+functions_of witness fs = functions_after witness [] fs
 
 -- the values of the parameters in one argument: none are the empty tuple, one is the argument itself, more are a tuple
 abbrev pub in_argument : HlValue-F HlValue → Option (List HlValue)
@@ -220,6 +245,6 @@ parts_of (p ∷ []) v = Some (v ∷ [])
 parts_of params v = in_argument (out-HlValue v)
 
 -- what the function of a name gives for an argument, with values for the names of witnesses
-abbrev pub meaning : List TypedFunction → List ℕ → List Binding → HlValue → Answer HlValue
+unfoldable pub meaning : List TypedFunction → List ℕ → List Binding → HlValue → Answer HlValue
 meaning fs name witness argument =
     shaped (find (λ f. bytes_eq name f.name) (functions_of witness fs)) (λ f. shaped (parts_of f.params argument) f.run)

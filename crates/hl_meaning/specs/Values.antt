@@ -8,11 +8,11 @@ use Rattle.hl_syntax.specs.declared.kinds.HlType.{HlType}
 use Rattle.hl_syntax.specs.declared.kinds.HlType.TheOpen.{HlType-F}
 use Rattle.hl_syntax.specs.declared.kinds.HlType.TheViews.{out-HlType}
 use Rattle.hl_syntax.specs.declared.kinds.HlType.TheFolds.{fold-HlType}
-use Rattle.jets.specs.Unsigned.{Unsigned}
+use Rattle.jets.specs.Unsigned.{Unsigned, is_width}
 use Rattle.simplicity.specs.Tuples.{tuple_value}
-use Rattle.simplicity.specs.Types.{Value, UnitValue, Inl, Inr, Pair, bit_value, word_value, word_count}
+use Rattle.simplicity.specs.Types.{Kind, One, Sum, Product, Value, UnitValue, Inl, Inr, Pair, bit_value, word_value, word_count}
 use Rattle.simplicity.specs.Widths.{level_of}
-use Rattle.simplicityhl.specs.Kinds.{bound_level}
+use Rattle.simplicityhl.specs.Kinds.{bound_level, sound_step}
 
 -- two answers beside one another, each where it is there
 abbrev pub beside : {A B C : Type 0} → (A → B → C) → Option A → Option B → Option C
@@ -73,6 +73,19 @@ encode_step v kind = encode_at v (out-HlType kind)
 abbrev pub encoded : HlValue → HlType → Option Value
 encoded v kind = fold-HlValue Encoding encode_step v kind
 
+-- Types.
+
+-- whether a type has sound widths, counts and bounds
+abbrev pub is_sound : HlType → Bool
+is_sound kind = fold-HlType Bool sound_step kind
+
+-- whether two core types are the same
+abbrev pub same_kind : Kind → Kind → Bool
+same_kind One One = true
+same_kind (Sum a b) (Sum c d) = same_kind a c && same_kind b d
+same_kind (Product a b) (Product c d) = same_kind a c && same_kind b d
+same_kind _ _ = false
+
 -- Decoding.
 
 abbrev pub Decoding : Type 0
@@ -112,6 +125,10 @@ number_of _ _ = None
 
 abbrev pub word_of : ℕ → ℕ → HlValue
 word_of width number = value.Number (record { width = width; number = number })
+
+-- a number of a width that words have, where it fits
+abbrev pub word_at : ℕ → ℕ → Option HlValue
+word_at width number = if is_width width && nat_lt number (2 ^ width) then Some (word_of width number) else None
 
 abbrev pub option_of : Decoding → Value → Option HlValue
 option_of part (Inl UnitValue) = Some value.Nothing

@@ -25,14 +25,20 @@ alias_walk aliases name text = do
   kind ← walk aliases text
   Ok (aliases ++ record { name = name.text; kind = kind } ∷ [])
 
--- a function's parameters with their types, after those that were met before
-abbrev pub params_walk : List TypedName → List Param → List TypedName → Step (List TypedName)
-params_walk aliases [] met = Ok met
-params_walk aliases (param ∷ params) met = do
+-- a parameter with its type, after those that were met before
+abbrev pub param_walk : List TypedName → Param → List TypedName → Step (List TypedName)
+param_walk aliases param met = do
   needs (not (is_reserved variable_words param.name.text)) K24 param.name.span
   needs (not (has_name met param.name.text)) K5 param.name.span
   kind ← walk aliases param.kind
-  params_walk aliases params (met ++ record { name = param.name.text; kind = kind } ∷ [])
+  Ok (met ++ record { name = param.name.text; kind = kind } ∷ [])
+
+-- parameters, one after the other
+abbrev pub params_walk : List TypedName → List Param → List TypedName → Step (List TypedName)
+params_walk aliases [] met = Ok met
+params_walk aliases (param ∷ params) met = do
+  more ← param_walk aliases param met
+  params_walk aliases params more
 
 -- a result that is left out is `()`
 abbrev pub result_walk : List TypedName → Option TypeText → Step HlType

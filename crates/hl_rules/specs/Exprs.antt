@@ -7,8 +7,10 @@ use Rattle.hl_syntax.specs.declared.rules.Rule.{Rule}
 use Rattle.hl_syntax.specs.declared.rules.Rule.TheVariants.{K3, K4, K6, K7, K8, K9, K11, K12, K13, K14, K15, K16, K17, K18, K19, K22, K23}
 use Rattle.hl_syntax.specs.declared.token.Span.{Span}
 use Rattle.hl_syntax.specs.declared.tree.Expr.{Expr}
+use Rattle.hl_syntax.specs.declared.tree.ExprForm.{ExprForm}
+use Rattle.hl_syntax.specs.declared.tree.Statement.{Statement}
 use Rattle.hl_syntax.specs.declared.tree.ExprForm.TheOpen.{ExprForm-F, Statement-F, Arm-F, Expr-F}
-use Rattle.hl_syntax.specs.declared.tree.ExprForm.TheFolds.{fold-Expr}
+use Rattle.hl_syntax.specs.declared.tree.ExprForm.TheFolds.{fold-Expr, fold-ExprForm, fold-Statement}
 use Rattle.hl_syntax.specs.declared.tree.Pattern.{Pattern}
 use Rattle.hl_syntax.specs.declared.tree.Side.{Side}
 use Rattle.hl_syntax.specs.declared.tree.Side.TheVariants as sides
@@ -69,6 +71,20 @@ items_walk (part ∷ parts) item scope = do
 
 -- Blocks.
 
+-- a `let` takes its type, its pattern, its expression, and then binds
+abbrev pub let_walk : List TypedName → Pattern → TypeText → ExprWalk → StatementWalk
+let_walk aliases pattern text value scope = do
+  kind ← plain (walk aliases text)
+  bound ← plain (pattern_walk pattern kind [])
+  found ← value scope kind K6
+  done (typed_statements.Let pattern kind found, bound ++ scope)
+
+-- another statement is checked at `()`
+abbrev pub plain_walk : ExprWalk → StatementWalk
+plain_walk e scope = do
+  found ← e scope unit_type K23
+  done (typed_statements.Plain found, scope)
+
 -- statements one after the other, each in the scope after the one before it
 abbrev pub statements_walk : List StatementWalk → Scope → Walk (List TypedStatement × Scope)
 statements_walk [] scope = done ([], scope)
@@ -98,14 +114,15 @@ are_sides sides.False sides.True = true
 are_sides sides.True sides.False = true
 are_sides _ _ = false
 
--- a side with its type, and the variables that it binds
-abbrev pub bound_side : List TypedName → (Pattern → HlType → TypedSide) → Pattern → TypeText → Step (TypedSide × Scope)
-bound_side aliases side pattern text = then_walk (walk aliases text) (λ kind. then_walk (pattern_walk pattern kind []) (λ bound. Ok (side pattern kind, bound)))
+-- the type that a side binds, and its variables
+abbrev pub binding_walk : List TypedName → Pattern → TypeText → Step (HlType × Scope)
+binding_walk aliases pattern text = then_walk (walk aliases text) (λ kind. then_walk (pattern_walk pattern kind []) (λ bound. Ok (kind, bound)))
 
+-- a side with its type, and the variables that it binds
 abbrev pub side_walk : List TypedName → Side → Step (TypedSide × Scope)
-side_walk aliases (sides.Left p t) = bound_side aliases typed_sides.Left p t
-side_walk aliases (sides.Right p t) = bound_side aliases typed_sides.Right p t
-side_walk aliases (sides.Some p t) = bound_side aliases typed_sides.Some p t
+side_walk aliases (sides.Left p t) = then_walk (binding_walk aliases p t) (λ found. Ok (typed_sides.Left p found.0, found.1))
+side_walk aliases (sides.Right p t) = then_walk (binding_walk aliases p t) (λ found. Ok (typed_sides.Right p found.0, found.1))
+side_walk aliases (sides.Some p t) = then_walk (binding_walk aliases p t) (λ found. Ok (typed_sides.Some p found.0, found.1))
 side_walk aliases sides.Nothing = Ok (typed_sides.Nothing, [])
 side_walk aliases sides.True = Ok (typed_sides.True, [])
 side_walk aliases sides.False = Ok (typed_sides.False, [])
@@ -145,6 +162,13 @@ jet_type (jets.Number width) = kind.UInt width
 abbrev pub results_type : List HlType → HlType
 results_type (only ∷ []) = only
 results_type results = kind.Tuple results
+
+-- the types of a jet's arguments, and of its results
+abbrev pub jet_arguments : Row → List HlType
+jet_arguments row = map jet_type row.arguments
+
+abbrev pub jet_result : Row → HlType
+jet_result row = results_type (map jet_type row.results)
 
 -- Loops.
 
@@ -201,9 +225,9 @@ module _ (c : Context) where
   form_step ExprForm-F.Panic span scope expected rule = done typed.Panic
   form_step (ExprForm-F.Jet name arguments) span scope expected rule = do
     row ← wants (jet_named name.text) K22 name.span
-    needs (nat_eq (length arguments) (length row.arguments)) K11 span
-    needs (same_type (results_type (map jet_type row.results)) expected) rule span
-    found ← parts_walk arguments (map jet_type row.arguments) scope
+    needs (nat_eq (length arguments) (length (jet_arguments row))) K11 span
+    needs (same_type (jet_result row) expected) rule span
+    found ← parts_walk arguments (jet_arguments row) scope
     done (typed.Jet name.text found)
   form_step (ExprForm-F.Witness name) span scope expected rule = do
     needs c.in_main K16 name.span
@@ -294,16 +318,9 @@ module _ (c : Context) where
     needs (same_type known expected) rule span
     done (typed.Name name)
 
-  -- a `let` takes its type, its pattern, its expression, and then binds; another statement is checked at `()`
   abbrev pub statement_step : Statement-F FormWalk StatementWalk ArmWalk ExprWalk → StatementWalk
-  statement_step (Statement-F.Let pattern text value span) scope = do
-    kind ← plain (walk c.aliases text)
-    bound ← plain (pattern_walk pattern kind [])
-    found ← value scope kind K6
-    done (typed_statements.Let pattern kind found, bound ++ scope)
-  statement_step (Statement-F.Plain e) scope = do
-    found ← e scope unit_type K23
-    done (typed_statements.Plain found, scope)
+  statement_step (Statement-F.Let pattern text value span) scope = let_walk c.aliases pattern text value scope
+  statement_step (Statement-F.Plain e) scope = plain_walk e scope
 
   abbrev pub arm_step : Arm-F FormWalk StatementWalk ArmWalk ExprWalk → ArmWalk
   arm_step arm = record { side = arm.side; body = arm.body }
@@ -315,3 +332,9 @@ module _ (c : Context) where
 
   abbrev pub expr_walk : Expr → ExprWalk
   expr_walk e = fold-Expr FormWalk StatementWalk ArmWalk ExprWalk form_step statement_step arm_step expr_step e
+
+  abbrev pub statement_walk : Statement → StatementWalk
+  statement_walk s = fold-Statement FormWalk StatementWalk ArmWalk ExprWalk form_step statement_step arm_step expr_step s
+
+  abbrev pub form_walk : ExprForm → FormWalk
+  form_walk form = fold-ExprForm FormWalk StatementWalk ArmWalk ExprWalk form_step statement_step arm_step expr_step form

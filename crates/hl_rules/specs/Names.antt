@@ -3,9 +3,13 @@ use Rattle.std.specs.Prelude.{ℕ, Bool, List, [], ◌∷◌, codes, map}
 use Rattle.simplicityhl.specs.Grammar.{is_among}
 use Rattle.simplicityhl.specs.Written.{width_names}
 
+-- the types of numbers
+abbrev pub number_words : List (List ℕ)
+number_words = map (λ entry. entry.0) width_names
+
 -- for an alias: the types that have names of their own
 abbrev pub alias_words : List (List ℕ)
-alias_words = codes "bool" ∷ codes "List" ∷ codes "Option" ∷ codes "Either" ∷ map (λ entry. entry.0) width_names
+alias_words = codes "bool" ∷ codes "List" ∷ codes "Option" ∷ codes "Either" ∷ number_words
 
 -- for a variable: the values and sides that have names of their own
 abbrev pub variable_words : List (List ℕ)

@@ -5,7 +5,7 @@ use Rattle.hl_syntax.specs.declared.kinds.HlType.TheOpen.{HlType-F}
 use Rattle.hl_syntax.specs.declared.kinds.HlType.TheViews.{out-HlType}
 use Rattle.hl_syntax.specs.declared.kinds.HlType.TheFolds.{fold-HlType}
 use Rattle.hl_syntax.specs.declared.kinds.HlType.TheVariants as kind
-use Rattle.simplicity.specs.Types.{Kind, One, Sum, Product}
+pub use Rattle.hl_meaning.specs.Values.{same_kind}
 
 -- whether types are the same, given for each of the first ones the test of being the same as it
 abbrev pub all_same : List (HlType → Bool) → List HlType → Bool
@@ -30,13 +30,6 @@ same_type a b = fold-HlType (HlType → Bool) (λ shape other. same_shape shape 
 -- the type of the empty tuple
 abbrev pub unit_type : HlType
 unit_type = kind.Tuple []
-
--- whether two core types are the same
-abbrev pub same_kind : Kind → Kind → Bool
-same_kind One One = true
-same_kind (Sum a b) (Sum c d) = same_kind a c && same_kind b d
-same_kind (Product a b) (Product c d) = same_kind a c && same_kind b d
-same_kind _ _ = false
 
 -- Parts of types, where a type has the shape.
 
