@@ -1,0 +1,7 @@
+pub mod Last
+pub mod Leaves
+pub mod Of
+pub mod Printed
+pub mod Reads
+pub mod Wide
+pub mod Written
