@@ -1,0 +1,5 @@
+use Rattle.hl_eval.proofs.Counted.{Words}
+use Rattle.hl_eval.proofs.jet_calls.words_of.Given as goal
+
+abbrev pub invariant-kinds : goal.invariant-kinds
+invariant-kinds l = Words l.kinds l.kind-index l.arguments l.words.items

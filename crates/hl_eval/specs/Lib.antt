@@ -1,0 +1,9 @@
+pub mod Bindings
+pub mod Complete
+pub mod Outcome
+pub mod Over
+pub mod Here
+pub mod Turned
+pub mod Uses
+pub mod Worded
+pub mod Valued
