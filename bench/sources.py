@@ -3,7 +3,7 @@
 
 usage: bench/sources.py   (in any folder; the program is proved and built first where it isn't)
 
-Each source is read, cut into tokens and refused, since it isn't a small source. For each size the least of a number
+Each source is read, cut into tokens, parsed and refused, since it isn't a small source. For each size the least of a number
 of runs counts, less the least of the same number of runs on an empty file. Twice the text may take at most 2.3 times
 the time: the exit status is 1 where it takes more.
 """
