@@ -1,0 +1,15 @@
+pub mod Decimals
+pub mod Drops
+pub mod Equal
+pub mod Exprs
+pub mod Finds
+pub mod Rolled
+pub mod Outer
+pub mod Pairs
+pub mod Parts
+pub mod Rising
+pub mod Sounds
+pub mod Alike
+pub mod Lengths
+pub mod Heads
+pub mod Whole

@@ -1,0 +1,86 @@
+//! Parts of expressions. What holds expressions takes the function that checks those as a value, so
+//! that each form is proved by itself.
+
+ghost use Rattle.std.specs.Prelude.{◌≡◌, length, map, OnOk};
+ghost use Rattle.hl_rules.specs.Exprs.{expr_walk, items_walk, parts_walk};
+ghost use Rattle.simplicityhl.specs.Kinds.{IsSound};
+ghost use Rattle.hl_check.specs.Contexts.{AreSoundTypes};
+ghost use Rattle.hl_check.specs.Gives.{Gives};
+ghost use Rattle.hl_check.specs.Nests.{Nests};
+
+use crate::body::Body;
+use crate::context::Checker;
+use crate::refusal::CheckRefusal;
+use hl_data::{TypedExpr, TypedExprs};
+use hl_syntax::{Expr, HlType, Rule};
+
+/// How the expressions in an expression are checked.
+#[derive(Clone, Copy)]
+pub(crate) struct Inner<'a, F> {
+    pub(crate) checker: &'a Checker<'a>,
+    pub(crate) depth: u16,
+    pub(crate) expr: F,
+}
+
+impl<
+    F: Fn(&Checker<'_>, u16, &Expr, &HlType, Rule, &mut Body) -> Result<TypedExpr, CheckRefusal>,
+> Inner<'_, F> {
+    /// A part at a type.
+    pub(crate) fn part(
+        &self,
+        e: &Expr,
+        expected: &HlType,
+        rule: Rule,
+        body: &mut Body,
+    ) -> Result<TypedExpr, CheckRefusal>
+        requires nests { Nests self.now.depth (F.pre self.now.expr) (F.post self.now.expr) }
+        requires sound { IsSound expected.now }
+        ensures gives { Gives (expr_walk self.now.checker.now e.now body.old.scope expected.now rule body.old.met) result body.new.met }
+        ensures scope { OnOk result (body.new.scope ≡ body.old.scope) }
+    {
+        (self.expr)(self.checker, self.depth, e, expected, rule, body)
+    }
+
+    /// Parts at their types, one after the other.
+    #[tactic(auto, using(crate::proofs::Exprs::part_next, crate::proofs::Exprs::no_part, crate::proofs::Sounds::sound_at))]
+    pub(crate) fn parts(
+        &self,
+        parts: &[Expr],
+        kinds: &[HlType],
+        body: &mut Body,
+    ) -> Result<TypedExprs, CheckRefusal>
+        requires nests { Nests self.now.depth (F.pre self.now.expr) (F.post self.now.expr) }
+        requires as_many { length parts.now ≡ length kinds.now }
+        requires sound { AreSoundTypes kinds.now }
+        ensures gives { Gives (parts_walk (map (expr_walk self.now.checker.now) parts.now) kinds.now body.old.scope body.old.met) result body.new.met }
+        ensures scope { OnOk result (body.new.scope ≡ body.old.scope) }
+    {
+        let mut found = TypedExprs::new(self.checker.alloc());
+        'parts: for (place, part) in parts.iter().enumerate() {
+            let one = self.part(part, &kinds[place], Rule::K6, body)?;
+            found.push(one)?;
+        }
+        Ok(found)
+    }
+
+    /// Parts at one type, one after the other.
+    #[tactic(auto, using(crate::proofs::Exprs::item_next, crate::proofs::Exprs::no_item))]
+    pub(crate) fn items(
+        &self,
+        parts: &[Expr],
+        item: &HlType,
+        body: &mut Body,
+    ) -> Result<TypedExprs, CheckRefusal>
+        requires nests { Nests self.now.depth (F.pre self.now.expr) (F.post self.now.expr) }
+        requires sound { IsSound item.now }
+        ensures gives { Gives (items_walk (map (expr_walk self.now.checker.now) parts.now) item.now body.old.scope body.old.met) result body.new.met }
+        ensures scope { OnOk result (body.new.scope ≡ body.old.scope) }
+    {
+        let mut found = TypedExprs::new(self.checker.alloc());
+        'items: for part in parts {
+            let one = self.part(part, item, Rule::K6, body)?;
+            found.push(one)?;
+        }
+        Ok(found)
+    }
+}
