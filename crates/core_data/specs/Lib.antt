@@ -1,1 +1,4 @@
 pub mod Data
+pub mod Above
+pub mod Loads
+pub mod Steps

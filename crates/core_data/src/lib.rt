@@ -2,5 +2,9 @@
 #![tactic(auto)]
 
 mod data;
+mod shrunk;
+#[cfg(test)]
+mod tests;
 
 pub use data::{CoreType, CoreValue, CoreValues, has_type};
+pub use shrunk::shrink;

@@ -1,4 +1,5 @@
 pub mod Growth
+mod Places
 mod Tables
 mod Stacks
 pub mod Words

@@ -1,19 +1,18 @@
 -- What rows say of their types, and a row at the end.
-use Rattle.std.proofs.Common.{◌≡◌, ℕ, zero, suc, ◌+◌, ◌<◌, ◌≤◌, ◌^◌, ◌-◌, min, max, ◌⊎◌, inl, inr, List, [], ◌∷◌, ◌++◌, length, refl, ap, sym, ◌∙◌, subst, arith, Some, get_or, length-append, slice_get}
+use Rattle.std.proofs.Common.{◌≡◌, ℕ, zero, suc, ◌<◌, ◌≤◌, ◌⊎◌, inl, inr, List, [], ◌∷◌, ◌++◌, length, refl, ap, sym, ◌∙◌, subst, arith, Some, get_or, length-append, slice_get}
 use Rattle.std.proofs.lemmas.Option.{slice_get-get_or, slice_get_within}
 use Rattle.std.proofs.Math.ListN.{get_or-append}
 use Rattle.std.proofs.Math.Seq.{get_or-append_seam}
 use Rattle.simplicity.specs.Types.{Kind, One, size, weight}
 use Rattle.type_table.specs.declared.shape.Shape.{Shape}
 use Rattle.type_table.specs.declared.shape.Shape.TheVariants as shape
-use Rattle.type_table.specs.declared.table.Row.{Row}
 use Rattle.type_table.specs.Kinds.{Means, kind_at, kind_in, IsGrown, IsDistinct, AreBelow, capped}
 use Rattle.std.proofs.lemmas.Bool.{cases_lt}
-use Rattle.type_table.specs.Rows.{kinds_after, kinds_of, IsRow, IsTable}
+use Rattle.type_table.specs.Rows.{Row, kinds_after, kinds_of, IsRow, IsTable}
 
-pub kinds_after-push : (before : List Kind) (rows : List Row) (row : Row) → kinds_after before (rows ++ row ∷ []) ≡ kinds_after before rows ++ kind_in (kinds_after before rows) row.shape ∷ []
+pub kinds_after-push : (before : List Kind) (rows : List Row) (row : Row) → kinds_after before (rows ++ row ∷ []) ≡ kinds_after before rows ++ kind_in (kinds_after before rows) row.0 ∷ []
 kinds_after-push before [] row = refl
-kinds_after-push before (first ∷ rows) row = kinds_after-push (before ++ kind_in before first.shape ∷ []) rows row
+kinds_after-push before (first ∷ rows) row = kinds_after-push (before ++ kind_in before first.0 ∷ []) rows row
 
 -- what more types leave
 pub kind_at-more : (kinds more : List Kind) (id : ℕ) → id < length kinds → kind_at (kinds ++ more) id ≡ kind_at kinds id
@@ -51,36 +50,6 @@ same_shapes kinds d (shape.Product i j) (shape.Product k m) hs ht e =
 pub row_at : (rows : List Row) (d : Row) → IsTable rows → (id : ℕ) → id < length rows → IsRow (kinds_of rows) id (get_or rows id d)
 row_at rows d table id h = table.each id (get_or rows id d) (slice_get-get_or rows id d h)
 
-one_more_capped : (a b x y : ℕ) → x ≡ max (capped a) (capped b) → y ≡ min (x + 1) (2 ^ 64 - 1) → y ≡ capped (1 + max a b)
-one_more_capped a b x y e f = omega arith
-
-both_capped : (a b y : ℕ) → y ≡ min (capped a + capped b) (2 ^ 64 - 1) → y ≡ capped (a + b)
-both_capped a b y e = omega arith
-
-both_and_one_capped : (a b y : ℕ) → y ≡ min (capped a + capped b + 1) (2 ^ 64 - 1) → y ≡ capped (1 + a + b)
-both_and_one_capped a b y e = omega arith
-
-module _ (rows : List Row) (d : Row) (table : IsTable rows) (l r : ℕ) (y : ℕ) where
-  pub sum_size : (x : ℕ) (s : Shape) → s ≡ shape.Sum l r → AreBelow (length rows) s → x ≡ max (get_or rows l d).size (get_or rows r d).size → y ≡ min (x + 1) (2 ^ 64 - 1) → y ≡ capped (size (kind_in (kinds_of rows) s))
-  sum_size x s is below e f =
-      let b = rw is at below in let p = (row_at rows d table l b.0).size in let q = (row_at rows d table r b.1).size in
-      rw is (one_more_capped (size (kind_at (kinds_of rows) l)) (size (kind_at (kinds_of rows) r)) x y (e ∙ ap (λ n. max n (get_or rows r d).size) p ∙ ap (max (capped (size (kind_at (kinds_of rows) l)))) q) f)
-
-  pub sum_weight : (s : Shape) → s ≡ shape.Sum l r → AreBelow (length rows) s → y ≡ min ((get_or rows l d).weight + (get_or rows r d).weight + 1) (2 ^ 64 - 1) → y ≡ capped (weight (kind_in (kinds_of rows) s))
-  sum_weight s is below e =
-      let b = rw is at below in let p = (row_at rows d table l b.0).weight in let q = (row_at rows d table r b.1).weight in
-      rw is (both_and_one_capped (weight (kind_at (kinds_of rows) l)) (weight (kind_at (kinds_of rows) r)) y (rw (← p, ← q) e))
-
-  pub product_size : (s : Shape) → s ≡ shape.Product l r → AreBelow (length rows) s → y ≡ min ((get_or rows l d).size + (get_or rows r d).size) (2 ^ 64 - 1) → y ≡ capped (size (kind_in (kinds_of rows) s))
-  product_size s is below e =
-      let b = rw is at below in let p = (row_at rows d table l b.0).size in let q = (row_at rows d table r b.1).size in
-      rw is (both_capped (size (kind_at (kinds_of rows) l)) (size (kind_at (kinds_of rows) r)) y (rw (← p, ← q) e))
-
-  pub product_weight : (s : Shape) → s ≡ shape.Product l r → AreBelow (length rows) s → y ≡ min ((get_or rows l d).weight + (get_or rows r d).weight + 1) (2 ^ 64 - 1) → y ≡ capped (weight (kind_in (kinds_of rows) s))
-  product_weight s is below e =
-      let b = rw is at below in let p = (row_at rows d table l b.0).weight in let q = (row_at rows d table r b.1).weight in
-      rw is (both_and_one_capped (weight (kind_at (kinds_of rows) l)) (weight (kind_at (kinds_of rows) r)) y (rw (← p, ← q) e))
-
 -- a list with an item at its end
 at_push : {X : Type 0} (xs : List X) (x y : X) (i : ℕ) → slice_get (xs ++ x ∷ []) i ≡ Some y → (slice_get xs i ≡ Some y) ⊎ ((i ≡ length xs) × (x ≡ y))
 at_push [] x y zero h = inr (refl, cc)
@@ -91,7 +60,7 @@ at_push (z ∷ xs) x y (suc i) h = elim (at_push xs x y i h) [ inl p ↦ inl p |
 row_more : (kinds more : List Kind) (id : ℕ) (row : Row) → id < length kinds → IsRow kinds id row → IsRow (kinds ++ more) id row
 row_more kinds more id row h is =
     let e = kind_at-more kinds more id h in
-    let f = kind_in-more kinds more row.shape (below_more id (length kinds) row.shape (omega arith) is.shape.parts) in
+    let f = kind_in-more kinds more row.0 (below_more id (length kinds) row.0 (omega arith) is.shape.parts) in
     record {
       shape = record { parts = is.shape.parts; is = e ∙ is.shape.is ∙ sym f };
       size = is.size ∙ ap (λ k. capped (size k)) (sym e);
@@ -100,26 +69,26 @@ row_more kinds more id row h is =
 
 -- a row that says what is so of a type that the rows before it don't mean
 pub record Follows (rows : List Row) (row : Row) : Type 0 where
-  pub below : AreBelow (length rows) row.shape
-  pub size : row.size ≡ capped (size (kind_in (kinds_of rows) row.shape))
-  pub weight : row.weight ≡ capped (weight (kind_in (kinds_of rows) row.shape))
-  pub absent : (id : ℕ) (other : Row) → slice_get rows id ≡ Some other → ¬ (other.shape ≡ row.shape)
+  pub below : AreBelow (length rows) row.0
+  pub size : row.1.size ≡ capped (size (kind_in (kinds_of rows) row.0))
+  pub weight : row.1.weight ≡ capped (weight (kind_in (kinds_of rows) row.0))
+  pub absent : (id : ℕ) (other : Row) → slice_get rows id ≡ Some other → ¬ (other.0 ≡ row.0)
 
 module _ (rows : List Row) (row : Row) (table : IsTable rows) (follows : Follows rows row) where
   abbrev kinds : List Kind
   kinds = kinds_of rows
 
   abbrev kind : Kind
-  kind = kind_in (kinds_of rows) row.shape
+  kind = kind_in (kinds_of rows) row.0
 
-  pub kinds-push : kinds_of (rows ++ row ∷ []) ≡ kinds_of rows ++ kind_in (kinds_of rows) row.shape ∷ []
+  pub kinds-push : kinds_of (rows ++ row ∷ []) ≡ kinds_of rows ++ kind_in (kinds_of rows) row.0 ∷ []
   kinds-push = kinds_after-push [] rows row
 
   last_row : IsRow (kinds ++ kind ∷ []) (length kinds) row
   last_row =
       let e : kind_at (kinds ++ kind ∷ []) (length kinds) ≡ kind = get_or-append_seam kinds kind [] One in
-      let b : AreBelow (length kinds) row.shape = rw table.count follows.below in
-      let f = kind_in-more kinds (kind ∷ []) row.shape b in
+      let b : AreBelow (length kinds) row.0 = rw table.count follows.below in
+      let f = kind_in-more kinds (kind ∷ []) row.0 b in
       record {
         shape = record { parts = b; is = e ∙ sym f };
         size = follows.size ∙ ap (λ k. capped (size k)) (sym e);
@@ -140,7 +109,7 @@ module _ (rows : List Row) (row : Row) (table : IsTable rows) (follows : Follows
       let b : i < length rows = omega arith in
       let is = row_at rows row table i b in
       follows.absent i (get_or rows i row) (slice_get-get_or rows i row b)
-      (same_shapes kinds table.distinct (get_or rows i row).shape row.shape (below_more i (length kinds) (get_or rows i row).shape (omega arith) is.shape.parts) (rw table.count follows.below) (sym is.shape.is ∙ e))
+      (same_shapes kinds table.distinct (get_or rows i row).0 row.0 (below_more i (length kinds) (get_or rows i row).0 (omega arith) is.shape.parts) (rw table.count follows.below) (sym is.shape.is ∙ e))
 
   -- where an id is, and what it means
   place : (i : ℕ) → i < length (kinds ++ kind ∷ []) → ((i < length kinds) × (kind_at (kinds ++ kind ∷ []) i ≡ kind_at kinds i)) ⊎ ((i ≡ length kinds) × (kind_at (kinds ++ kind ∷ []) i ≡ kind))
@@ -174,39 +143,33 @@ module _ (rows : List Row) (row : Row) (table : IsTable rows) (follows : Follows
       record { within = omega arith; is = ap (kind_at (kinds ++ kind ∷ [])) at ∙ e })
 
 -- the type of a row that is there
-pub found_means : (rows : List Row) → IsTable rows → (id : ℕ) (row : Row) (s : Shape) → slice_get rows id ≡ Some row → row.shape ≡ s → Means (kinds_of rows) id (kind_in (kinds_of rows) s)
+pub found_means : (rows : List Row) → IsTable rows → (id : ℕ) (row : Row) (s : Shape) → slice_get rows id ≡ Some row → row.0 ≡ s → Means (kinds_of rows) id (kind_in (kinds_of rows) s)
 found_means rows table id row s h is =
     let within = slice_get_within rows id row h in let count = table.count in
     record { within = omega arith; is = (table.each id row h).shape.is ∙ ap (kind_in (kinds_of rows)) is }
 
 -- the same of a table that is seen as its types
 module _ (rows : List Row) (now : List Kind) (seen : kinds_of rows ≡ now) (table : IsTable rows) where
-  pub row_is : (id : ℕ) (row : Row) → id < length now → row ≡ get_or rows id row → IsRow now id row
-  row_is id row h is =
-      let count = table.count in let same = ap length seen in
-      let P : List Kind → Type 0 = λ ks. IsRow ks id row in
-      let Q : Row → Type 0 = λ r. IsRow (kinds_of rows) id r in
-      subst P seen (subst Q (sym is) (row_at rows row table id (omega arith)))
+  pub row_is : (id : ℕ) (row : Row) → slice_get rows id ≡ Some row → IsRow now id row
+  row_is id row h = let P : List Kind → Type 0 = λ ks. IsRow ks id row in subst P seen (table.each id row h)
 
-  pub found_in : (s : Shape) (id : ℕ) → (row : Row) × (slice_get rows id ≡ Some row) × (row.shape ≡ s) → Means now id (kind_in now s)
+  pub found_in : (s : Shape) (id : ℕ) → (row : Row) × (slice_get rows id ≡ Some row) × (row.0 ≡ s) → Means now id (kind_in now s)
   found_in s id found = let P : List Kind → Type 0 = λ ks. Means ks id (kind_in ks s) in subst P seen (found_means rows table id found.0 s found.1 found.2)
 
-  pub follows_in : (s : Shape) (row : Row) → AreBelow (length now) s → row.shape ≡ s → row.size ≡ capped (size (kind_in (kinds_of rows) s)) → row.weight ≡ capped (weight (kind_in (kinds_of rows) s)) →
-      ((id : ℕ) (other : Row) → slice_get rows id ≡ Some other → ¬ (other.shape ≡ s)) → Follows rows row
-  follows_in s row below is size weight absent =
+  pub follows_in : (row : Row) → AreBelow (length now) row.0 → row.1.size ≡ capped (size (kind_in now row.0)) → row.1.weight ≡ capped (weight (kind_in now row.0)) →
+      ((id : ℕ) (other : Row) → slice_get rows id ≡ Some other → ¬ (other.0 ≡ row.0)) → Follows rows row
+  follows_in row below is_size is_weight absent =
       let same = ap length seen in let count = table.count in
       record {
-        below = rw is (below_more (length now) (length rows) s (omega arith) below);
-        size = rw is size;
-        weight = rw is weight;
-        absent = rw is absent;
+        below = below_more (length now) (length rows) row.0 (omega arith) below;
+        size = rw seen is_size;
+        weight = rw seen is_weight;
+        absent = absent;
       }
 
-  pub added_means : (s : Shape) (row : Row) (id : ℕ) → Follows rows row → row.shape ≡ s → id ≡ length rows → Means (kinds_of (rows ++ row ∷ [])) id (kind_in now s)
-  added_means s row id follows is at =
-      let P : List Kind → Type 0 = λ ks. Means (kinds_of (rows ++ row ∷ [])) id (kind_in ks s) in
-      let Q : Shape → Type 0 = λ t. Means (kinds_of (rows ++ row ∷ [])) id (kind_in (kinds_of rows) t) in
-      subst P seen (subst Q is (new_means rows row table follows id at))
+  pub added_means : (row : Row) (id : ℕ) → Follows rows row → id ≡ length rows → Means (kinds_of (rows ++ row ∷ [])) id (kind_in now row.0)
+  added_means row id follows at =
+      let P : List Kind → Type 0 = λ ks. Means (kinds_of (rows ++ row ∷ [])) id (kind_in ks row.0) in subst P seen (new_means rows row table follows id at)
 
   pub added_grown : (row : Row) → Follows rows row → IsGrown now (kinds_of (rows ++ row ∷ []))
-  added_grown row follows = record { more = kind_in (kinds_of rows) row.shape ∷ []; is = kinds-push rows row table follows ∙ ap (λ ks. ks ++ kind_in (kinds_of rows) row.shape ∷ []) seen }
+  added_grown row follows = record { more = kind_in (kinds_of rows) row.0 ∷ []; is = kinds-push rows row table follows ∙ ap (λ ks. ks ++ kind_in (kinds_of rows) row.0 ∷ []) seen }

@@ -2,7 +2,7 @@
 pub type TypeId = usize;
 
 /// A type as its table keeps it: the parts are ids of the same table.
-#[derive(Clone, Copy, Debug, PartialEq, Eq)]
+#[derive(Clone, Copy, Debug, PartialEq, Eq, Hash)]
 pub enum Shape {
     One,
     Sum(TypeId, TypeId),

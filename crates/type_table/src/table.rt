@@ -1,19 +1,18 @@
-ghost use Rattle.std.specs.Prelude.{◌≡◌, ℕ, ◌+◌, ◌-◌, ◌^◌, ◌<◌, min, [], length, slice_get, Some, IfOk, IfSome, IfNone};
+ghost use Rattle.std.specs.Prelude.{◌≡◌, ℕ, ◌+◌, ◌-◌, ◌^◌, ◌<◌, min, [], length, IfOk};
 ghost use Rattle.simplicity.specs.Types.{One, Sum, Product, size, weight};
 ghost use Rattle.simplicity.specs.Widths.{IsWidth, word_of_width};
 ghost use Rattle.type_table.specs.Kinds.{Means, kind_at, kind_in, IsGrown, IsDistinct, AreBelow, HasShape, capped};
-ghost use Rattle.type_table.specs.Rows.{kinds_of, IsRow, IsTable};
-ghost use Rattle.type_table.specs.declared.table.Row.{Row};
+ghost use Rattle.type_table.specs.Rows.{IsRow};
 
 use crate::shape::{Shape, TypeId};
+use indexmap::IndexMap;
 use std::alloc::{AllocError, Global};
 use std::marker::Model;
 
-/// A type of a table, with how many cells a value of it takes and how many nodes its tree has.
+/// How many cells a value of a type takes and how many nodes the type's tree has.
 /// Both numbers are 2^64 - 1 where they would be more.
-#[derive(Clone, Copy, Debug, PartialEq, Eq)]
-pub(crate) struct Row {
-    pub shape: Shape,
+#[derive(Clone, Copy)]
+pub(crate) struct Measures {
     pub size: u64,
     pub weight: u64,
 }
@@ -22,7 +21,8 @@ pub(crate) struct Row {
 /// after every call, also after one that ran out of memory, when the table may have gained types.
 #[derive(Drop)]
 pub struct TypeTable {
-    rows: Vec<Row>,
+    // The shape of each type, by its id, with its measures. A shape's id is found by its hash.
+    rows: IndexMap<Shape, Measures>,
 }
 
 impl Model for TypeTable {
@@ -36,9 +36,9 @@ impl Model for TypeTable {
 
     ghost use Rattle.type_table.specs.Rows.{kinds_of, IsTable};
 
-    ghost view = { λ table. kinds_of table.rows.items };
+    ghost view = { λ table. kinds_of table.rows.entries };
 
-    ghost invariant = { λ table. IsTable table.rows.items };
+    ghost invariant = { λ table. IsTable table.rows.entries };
 }
 
 impl TypeTable {
@@ -47,7 +47,7 @@ impl TypeTable {
         ensures { result ≡ [] }
     {
         TypeTable {
-            rows: Vec::new(alloc),
+            rows: IndexMap::new(alloc),
         }
     }
 
@@ -103,7 +103,7 @@ impl TypeTable {
         ensures shape { HasShape self.now id result }
         ensures distinct { IsDistinct self.now }
     {
-        self.row(id).shape
+        *self.row(id).0
     }
 
     /// How many cells a value of the type takes; 2^64 - 1 where it would be more.
@@ -111,7 +111,7 @@ impl TypeTable {
         requires { id < length self.now }
         ensures { result ≡ capped (size (kind_at self.now id)) }
     {
-        self.row(id).size
+        self.row(id).1.size
     }
 
     /// How many nodes the tree of the type has; 2^64 - 1 where it would have more.
@@ -119,16 +119,19 @@ impl TypeTable {
         requires { id < length self.now }
         ensures { result ≡ capped (weight (kind_at self.now id)) }
     {
-        self.row(id).weight
+        self.row(id).1.weight
     }
 
     /// The row of an id.
-    fn row(&self, id: TypeId) -> &Row
+    fn row(&self, id: TypeId) -> (&Shape, &Measures)
         requires { id < length self.now }
-        ensures row { IsRow self.now id result.now }
+        ensures row { IsRow self.now id (result.0.now, result.1.now) }
         ensures distinct { IsDistinct self.now }
     {
-        &self.rows[id]
+        match self.rows.get_index(id) {
+            Some(row) => row,
+            None => unreachable!(),
+        }
     }
 
     /// The id of a shape, which is added where it isn't there yet.
@@ -138,58 +141,33 @@ impl TypeTable {
         ensures grown { IsGrown self.old self.new }
         ensures distinct { IsDistinct self.new }
     {
-        let rows = self.rows.as_slice();
-        match place_of(rows, shape) {
+        match self.rows.get_index_of(&shape) {
             Some(id) => Ok(id),
             None => {
-                let row = row_of(rows, shape);
+                let measures = self.measures_of(shape);
                 let id = self.rows.len();
-                self.rows.push(row)?;
+                self.rows.insert(shape, measures)?;
                 Ok(id)
             }
         }
     }
-}
 
-/// The place of the row with a shape.
-fn place_of(rows: &[Row], shape: Shape) -> Option<usize>
-    ensures found { IfSome result (λ id. (row : Row) × (slice_get rows.now id ≡ Some row) × (row.shape ≡ shape)) }
-    ensures none { IfNone result ((id : ℕ) (row : Row) → slice_get rows.now id ≡ Some row → ¬ (row.shape ≡ shape)) }
-{
-    rows.iter().position(|row| row.shape == shape)
-}
-
-/// The row of a shape over the rows that are there.
-fn row_of(rows: &[Row], shape: Shape) -> Row
-    requires table { IsTable rows.now }
-    requires parts { AreBelow (length rows.now) shape }
-    ensures shape { result.shape ≡ shape }
-    ensures size { result.size ≡ capped (size (kind_in (kinds_of rows.now) shape)) }
-    ensures weight { result.weight ≡ capped (weight (kind_in (kinds_of rows.now) shape)) }
-{
-    match shape {
-        Shape::One => Row {
-            shape,
-            size: 0,
-            weight: 1,
-        },
-        Shape::Sum(left, right) => {
-            let left = rows[left];
-            let right = rows[right];
-            Row {
-                shape,
-                size: left.size.max(right.size).saturating_add(1),
-                weight: both_and_one(left.weight, right.weight),
-            }
-        }
-        Shape::Product(left, right) => {
-            let left = rows[left];
-            let right = rows[right];
-            Row {
-                shape,
-                size: left.size.saturating_add(right.size),
-                weight: both_and_one(left.weight, right.weight),
-            }
+    /// The measures of a shape's type, from those of its parts.
+    fn measures_of(&self, shape: Shape) -> Measures
+        requires { AreBelow (length self.now) shape }
+        ensures size { result.size ≡ capped (size (kind_in self.now shape)) }
+        ensures weight { result.weight ≡ capped (weight (kind_in self.now shape)) }
+    {
+        match shape {
+            Shape::One => Measures { size: 0, weight: 1 },
+            Shape::Sum(left, right) => Measures {
+                size: self.size(left).max(self.size(right)).saturating_add(1),
+                weight: both_and_one(self.weight(left), self.weight(right)),
+            },
+            Shape::Product(left, right) => Measures {
+                size: self.size(left).saturating_add(self.size(right)),
+                weight: both_and_one(self.weight(left), self.weight(right)),
+            },
         }
     }
 }
