@@ -13,4 +13,6 @@ mod RowCells
 mod Constraint
 mod Turns
 mod Listed
-mod ShownLists
+pub mod ShownLists
+mod Shrinking
+mod Shrunk

@@ -5,3 +5,4 @@ pub mod Emission
 pub mod Constrained
 pub mod Typings
 pub mod Ids
+pub mod Shrunk

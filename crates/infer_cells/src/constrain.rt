@@ -14,6 +14,9 @@ use std::alloc::{AllocError, Global};
 use term_core::NodeList;
 use type_table::{Shape, TypeId, TypeTable};
 
+/// The most cells that are made for a node.
+const MOST_CELLS: usize = 7;
+
 /// Solved cells, and where among them the nodes' arrows are.
 #[derive(Drop)]
 pub(crate) struct Constraints {
@@ -35,9 +38,10 @@ pub(crate) fn constrain(
     ensures ok { IfOk result (λ all. AreConstrained nodes.now (arrow_between types.now source target) all.cells.items all.places.items) }
     ensures none { IfErr result (λ e. OnNoTyping e (HasNoTyping nodes.now (arrow_between types.now source target))) }
 {
-    let mut cells = row_cells(alloc, types, source.max(target))?;
+    let room = nodes.len().saturating_mul(MOST_CELLS);
+    let mut cells = row_cells(alloc, types, source.max(target), room)?;
     let mut work = Vec::new(alloc);
-    let mut places = Vec::new(alloc);
+    let mut places = Vec::with_capacity(alloc, nodes.len())?;
     for node in nodes.as_slice() {
         let place = emit(node, places.as_slice(), &mut cells, &mut work)?;
         match solve(&mut cells, &mut work) {
@@ -53,13 +57,18 @@ pub(crate) fn constrain(
     }
 }
 
-/// The cells of the rows of a table of types up to one.
-fn row_cells(alloc: Global, types: &TypeTable, last: TypeId) -> Result<Vec<Cell>, AllocError>
+/// The cells of the rows of a table of types up to one, with room for so many cells from the start.
+fn row_cells(
+    alloc: Global,
+    types: &TypeTable,
+    last: TypeId,
+    room: usize,
+) -> Result<Vec<Cell>, AllocError>
     requires { last < length types.now }
     ensures rows { IfOk result (λ cells. AreRowCells types.now cells.items) }
     ensures count { IfOk result (λ cells. length cells.items ≡ last + 1) }
 {
-    let mut cells = Vec::new(alloc);
+    let mut cells = Vec::with_capacity(alloc, room)?;
     for id in 0..last {
         cells.push(row_cell(types, id))?;
     }

@@ -4,10 +4,9 @@
 mod cell;
 mod constrain;
 mod emit;
+pub mod laws;
 mod least;
 mod refusal;
-#[cfg(test)]
-mod tests;
 mod typing;
 mod unify;
 mod walk;

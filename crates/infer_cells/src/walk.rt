@@ -32,7 +32,7 @@ pub(crate) fn type_cells(
     ensures grown { IsGrown types.old types.new }
 {
     let mut marks = new_marks(alloc, cells.len())?;
-    let mut ids = Vec::new(alloc);
+    let mut ids = Vec::with_capacity(alloc, cells.len())?;
     for start in 0..cells.len() {
         let id = match type_of(alloc, cells, start, &mut marks, types) {
             Ok(id) => id,
@@ -55,7 +55,7 @@ fn append(ids: &mut Vec<TypeId>, id: TypeId) -> Result<(), AllocError>
 fn new_marks(alloc: Global, count: usize) -> Result<Vec<Mark>, AllocError>
     ensures { IfOk result (λ marks. (length marks.items ≡ count) × ((i : ℕ) (m : Mark) → slice_get marks.items i ≡ Some m → m ≡ mark.New)) }
 {
-    let mut marks = Vec::new(alloc);
+    let mut marks = Vec::with_capacity(alloc, count)?;
     for _ in 0..count {
         marks.push(Mark::New)?;
     }

@@ -7,7 +7,7 @@ use Rattle.infer_cells.proofs.constrain.constrain.Goals as goal
 pub loop-node-init : goal.loop-node-init
 loop-node-init c = record {
   so_far =
-      rw c.new-places.ensures.items
+      rw c.in_ok-places.ensures.items
       (constrains_none c.args.types.now (max c.args.source c.args.target) c.args.nodes.now c.in_ok-cells.cells.items c.in_ok-cells.ensures.rows
       (rw c.max.ensures at c.in_ok-cells.ensures.count) (omega (arith, c.requires.source, c.requires.target)));
   nothing = c.new-work.ensures.items;

@@ -1,0 +1,5 @@
+use Rattle.infer_cells.proofs.Shrunk.{same_result}
+use Rattle.infer_cells.proofs.laws.least_types_change_no_result.Goals as goal
+
+pub returns : goal.returns
+returns c = same_result c.trees_are_typed_law.ensures c.shrink_keeps_law.ensures c.meaning_keeps_law.ensures

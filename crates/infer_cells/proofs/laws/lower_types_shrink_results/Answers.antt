@@ -1,0 +1,5 @@
+use Rattle.infer_cells.proofs.Shrunk.{shrink_law}
+use Rattle.infer_cells.proofs.laws.lower_types_shrink_results.Goals as goal
+
+pub returns : goal.returns
+returns c = shrink_law c.trees_are_typed_law.ensures c.shrink_keeps_law.ensures
