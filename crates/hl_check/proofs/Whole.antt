@@ -12,15 +12,19 @@ use Rattle.hl_syntax.specs.declared.tree.TypeText.{TypeText}
 use Rattle.hl_data.specs.declared.typed.TypedExpr.{TypedExpr}
 use Rattle.hl_data.specs.declared.typed.TypedFunction.{TypedFunction}
 use Rattle.hl_data.specs.declared.value.Entry.{Entry}
-use Rattle.simplicityhl.specs.Written.{Broken, then_walk}
+use Rattle.simplicityhl.specs.Written.{Broken, breaks_rule, breaks_limit, then_walk}
+use Rattle.hl_rules.proofs.Items.{answered}
+use Rattle.hl_rules.specs.Breaks.{Breaks}
+use Rattle.hl_rules.specs.Entries.{AreValued}
 use Rattle.hl_rules.specs.Declared.{Head, alias_walk, has_function, head_walk}
 use Rattle.hl_rules.specs.Exprs.{expr_walk}
 use Rattle.hl_rules.specs.Places.{is_main}
 use Rattle.hl_rules.specs.Programs.{Known, Checked, checked, checked_of, function_walk, item_walk, items_walk}
 use Rattle.hl_rules.specs.Steps as steps
+use Rattle.hl_typed.specs.Typed.{BreaksNothing}
 use Rattle.hl_check.specs.Gives.{Answers, Gives, Shows}
 use Rattle.hl_check.specs.Knowns.{alias_known}
-use Rattle.hl_check.specs.Typed.{BreaksNothing}
+use Rattle.hl_check.specs.Tells.{TellsBroken}
 use Rattle.hl_check.specs.declared.refusal.CheckRefusal.{CheckRefusal}
 use Rattle.hl_check.specs.declared.refusal.CheckRefusal.TheVariants as refusals
 use Rattle.hl_check.proofs.Rolled.{passed}
@@ -129,6 +133,13 @@ module _ (program : List Item) (asked : List ℕ) (entries : List Entry) (end : 
       checked_is ∙ ap (λ (w : Result (Known × List TypedName) Broken). checked_of (then_walk w then_asked)) h
       ∙ ap (λ (w : Result (Unit {0}) Broken). checked_of (then_walk (then_walk w (keep met)) (give functions))) k
 
-  pub breaks_nothing : (aliases : List TypedName) (functions : List TypedFunction) (met : List TypedName) → all_items ≡ Ok (record { aliases = aliases; functions = functions }, met) → asked_for functions ≡ Ok tt →
+  pub breaks_nothing : (aliases : List TypedName) (functions : List TypedFunction) (met : List TypedName) → all_items ≡ Ok (record { aliases = aliases; functions = functions }, met) → asked_for functions ≡ Ok tt → AreValued entries →
       BreaksNothing (record { functions = functions; witnesses = met })
-  breaks_nothing aliases functions met h k = record { program = program; asked = asked; entries = entries; end = end; is = program_found aliases functions met h k }
+  breaks_nothing aliases functions met h k valued = record { program = program; asked = asked; entries = entries; end = end; is = program_found aliases functions met h k; valued = valued }
+
+  -- what answers as the walk does tells what is broken
+  pub told_broken : (result : Result Checked CheckRefusal) → Answers (checked program asked entries end) result → TellsBroken (Breaks program asked entries end) result
+  told_broken (Ok found) h = tt
+  told_broken (Err (refusals.Rule rule span)) h = answered program asked entries end (breaks_rule rule span) h
+  told_broken (Err (refusals.Limit limit span)) h = answered program asked entries end (breaks_limit limit span) h
+  told_broken (Err refusals.OutOfMemory) h = tt

@@ -5,4 +5,4 @@ pub mod Heads
 pub mod Inner
 pub mod Knowns
 pub mod Nests
-pub mod Typed
+pub mod Tells

@@ -25,8 +25,7 @@ mod scope;
 mod shapes;
 mod sides;
 mod signature;
-#[cfg(test)]
-mod tests;
 
-pub use program::{TypedProgram, check};
+pub use hl_typed::TypedProgram;
+pub use program::check;
 pub use refusal::CheckRefusal;

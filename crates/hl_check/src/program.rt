@@ -2,9 +2,12 @@
 
 ghost use Rattle.std.specs.Prelude.{◌≡◌, ◌++◌, ◌∷◌, [], IfOk};
 ghost use Rattle.std.specs.List.{All};
+ghost use Rattle.hl_rules.specs.Breaks.{Breaks};
+ghost use Rattle.hl_rules.specs.Entries.{AreValued};
 ghost use Rattle.hl_rules.specs.Programs.{checked, function_walk, item_walk, items_walk};
 ghost use Rattle.hl_check.specs.Contexts.{IsSoundFunction};
 ghost use Rattle.hl_check.specs.Gives.{Answers, Gives, Shows};
+ghost use Rattle.hl_check.specs.Tells.{TellsBroken};
 ghost use Rattle.hl_check.specs.Knowns.{IsSoundKnown, alias_known, known_of};
 
 use crate::body::Body;
@@ -17,10 +20,10 @@ use hl_data::{Entries, Functions, TypedFunction};
 use hl_syntax::{
     Aliases, Expr, Item, Mark, Param, Program, Rule, Span, TypeText, TypedName, Wanted,
 };
+use hl_typed::TypedProgram;
 use hl_types::copy_type;
 use lists::Text;
 use std::alloc::{AllocError, Global};
-use std::marker::Model;
 
 /// The aliases and the functions up to a place of the text, and the witnesses that were met.
 #[derive(Drop)]
@@ -176,43 +179,6 @@ fn items(alloc: Global, program: &[Item], entries: &Entries) -> Result<Walked, C
     Ok(known)
 }
 
-/// The typed tree of a program: its functions, and the witnesses of `main` with their types in the
-/// text's order. It breaks no rule and no limit.
-#[derive(Drop)]
-pub struct TypedProgram {
-    functions: Functions,
-    witnesses: Wanted,
-}
-
-impl Model for TypedProgram {
-    ghost use Rattle.hl_rules.specs.Programs.{Checked};
-    ghost use Rattle.hl_check.specs.Typed.{BreaksNothing, coded_checked};
-
-    ghost Value = { Checked };
-
-    ghost coded = { coded_checked };
-
-    ghost view = { λ found. record { functions = found.functions; witnesses = found.witnesses } };
-
-    ghost invariant = { λ found. BreaksNothing (record { functions = found.functions; witnesses = found.witnesses }) };
-}
-
-impl TypedProgram {
-    /// The functions in the text's order.
-    pub fn functions(&self) -> &Functions
-        ensures { result.now ≡ self.now.functions }
-    {
-        &self.functions
-    }
-
-    /// The witnesses of `main` with their types, in the text's order.
-    pub fn witnesses(&self) -> &Wanted
-        ensures { result.now ≡ self.now.witnesses }
-    {
-        &self.witnesses
-    }
-}
-
 /// Walks a program, of which the function `asked` is asked for. `params` are the entries for its
 /// parameters, `edition` is 1, and `end` is the length of its text.
 ///
@@ -228,8 +194,10 @@ pub fn check(
     edition: u8,
     end: u64,
 ) -> Result<TypedProgram, CheckRefusal>
-    requires { edition ≡ 1 }
-    ensures { Answers (checked program.now asked.now params.now end) result }
+    requires edition { edition ≡ 1 }
+    requires entries { AreValued params.now }
+    ensures answers { Answers (checked program.now asked.now params.now end) result }
+    ensures broken { TellsBroken (Breaks program.now asked.now params.now end) result }
 {
     let _ = edition;
     let known = items(alloc, program.as_slice(), params)?;
@@ -244,8 +212,5 @@ pub fn check(
         functions,
         met,
     } = known;
-    Ok(TypedProgram {
-        functions,
-        witnesses: met,
-    })
+    Ok(TypedProgram::new(functions, met))
 }

@@ -7,15 +7,18 @@ use Rattle.hl_syntax.specs.declared.kinds.TypedName.{TypedName}
 use Rattle.hl_syntax.specs.declared.tree.Item.{Item}
 use Rattle.hl_data.specs.declared.typed.TypedFunction.{TypedFunction}
 use Rattle.hl_data.specs.declared.value.Entry.{Entry}
+use Rattle.hl_rules.specs.Entries.{AreValued}
 use Rattle.hl_rules.specs.Programs.{Checked, checked}
 
--- it is what some source text is, of which some function is asked for, with some entries: no rule and no limit is broken there
+-- it is what some source text is, of which some function is asked for, with some entries whose values are of their types: no rule
+-- and no limit is broken there
 pub record BreaksNothing (found : Checked) : Type 0 where
   pub program : List Item
   pub asked : List ℕ
   pub entries : List Entry
   pub end : ℕ
   pub is : checked program asked entries end ≡ Ok found
+  pub valued : AreValued entries
 
 -- a typed program is told from others by its parts
 abbrev pub coded_checked : Coded Checked

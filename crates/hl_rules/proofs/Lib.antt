@@ -1,0 +1,11 @@
+pub mod Fine
+pub mod Types
+pub mod Names
+pub mod Patterns
+pub mod Here
+pub mod Leaves
+pub mod Many
+pub mod Blocks
+pub mod Bodies
+pub mod Items
+pub mod Entries

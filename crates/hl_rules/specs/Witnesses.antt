@@ -1,0 +1,64 @@
+-- The names of the witnesses in a tree, in the text's order.
+use Rattle.std.specs.Prelude.{ℕ, List, [], ◌∷◌, ◌++◌, flat_map, Option, Some, None}
+use Rattle.hl_syntax.specs.declared.tree.Expr.{Expr}
+use Rattle.hl_syntax.specs.declared.tree.Item.{Item}
+use Rattle.hl_syntax.specs.declared.tree.Item.TheVariants as items
+use Rattle.hl_syntax.specs.declared.tree.ExprForm.{ExprForm}
+use Rattle.hl_syntax.specs.declared.tree.Statement.{Statement}
+use Rattle.hl_syntax.specs.declared.tree.Arm.{Arm}
+use Rattle.hl_syntax.specs.declared.tree.ExprForm.TheOpen.{ExprForm-F, Statement-F}
+use Rattle.hl_syntax.specs.declared.tree.ExprForm.TheFolds.{fold-Expr, fold-ExprForm, fold-Statement, fold-Arm}
+
+abbrev pub Names : Type 0
+Names = List (List ℕ)
+
+abbrev pub joined : List Names → Names
+joined parts = flat_map (λ names. names) parts
+
+abbrev pub if_any : Option Names → Names
+if_any None = []
+if_any (Some names) = names
+
+abbrev pub names_step : ExprForm-F Names Names Names Names → Names
+names_step (ExprForm-F.Witness name) = name.text ∷ []
+names_step (ExprForm-F.Block statements last) = joined statements ++ if_any last
+names_step (ExprForm-F.Match e arms) = e ++ joined arms
+names_step (ExprForm-F.Tuple parts) = joined parts
+names_step (ExprForm-F.Array parts) = joined parts
+names_step (ExprForm-F.List parts) = joined parts
+names_step (ExprForm-F.Jet name arguments) = joined arguments
+names_step (ExprForm-F.Call name arguments) = joined arguments
+names_step (ExprForm-F.Fold name count list total) = list ++ total
+names_step (ExprForm-F.ArrayFold name count array total) = array ++ total
+names_step (ExprForm-F.ForWhile name total context) = total ++ context
+names_step (ExprForm-F.Assert e) = e
+names_step (ExprForm-F.Dbg e) = e
+names_step (ExprForm-F.Into text e) = e
+names_step (ExprForm-F.Unwrap e) = e
+names_step (ExprForm-F.UnwrapLeft text e) = e
+names_step (ExprForm-F.UnwrapRight text e) = e
+names_step (ExprForm-F.IsNone text e) = e
+names_step (ExprForm-F.Left e) = e
+names_step (ExprForm-F.Right e) = e
+names_step (ExprForm-F.Some e) = e
+names_step _ = []
+
+abbrev pub statement_names_step : Statement-F Names Names Names Names → Names
+statement_names_step (Statement-F.Let pattern text value span) = value
+statement_names_step (Statement-F.Plain e) = e
+
+abbrev pub form_names : ExprForm → Names
+form_names form = fold-ExprForm Names Names Names Names names_step statement_names_step (λ arm. arm.body) (λ e. e.form) form
+
+abbrev pub statement_names : Statement → Names
+statement_names s = fold-Statement Names Names Names Names names_step statement_names_step (λ arm. arm.body) (λ e. e.form) s
+
+abbrev pub arm_names : Arm → Names
+arm_names arm = fold-Arm Names Names Names Names names_step statement_names_step (λ arm. arm.body) (λ e. e.form) arm
+
+abbrev pub expr_names : Expr → Names
+expr_names e = fold-Expr Names Names Names Names names_step statement_names_step (λ arm. arm.body) (λ e. e.form) e
+
+abbrev pub item_names : Item → Names
+item_names (items.Alias name text span) = []
+item_names (items.Function name params text body span) = expr_names body
