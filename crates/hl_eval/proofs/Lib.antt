@@ -12,3 +12,4 @@ pub mod Results
 pub mod Spelled
 pub mod Alike
 pub mod OfType
+pub mod Fitting

@@ -7,3 +7,4 @@ pub mod Turned
 pub mod Uses
 pub mod Worded
 pub mod Valued
+pub mod Evaluated

@@ -1,6 +1,7 @@
 //! What a function of a program gives for its arguments: the meaning of a source text, computed.
 #![tactic(auto)]
 
+mod call;
 mod conversion;
 mod copy;
 mod evaluator;
@@ -11,13 +12,14 @@ mod literals;
 mod of_type;
 mod patterns;
 mod program;
+mod refusal;
 mod scope;
 mod sound;
-#[cfg(test)]
-mod tests;
 mod turn;
 mod uses;
 mod values;
 
+pub use call::eval;
 pub use fault::EvalFault;
 pub use program::evaluate;
+pub use refusal::EvalRefusal;

@@ -8,8 +8,6 @@ mod literal;
 mod print;
 mod read;
 mod refusal;
-#[cfg(test)]
-mod tests;
 mod written;
 
 pub use decode::from_core;

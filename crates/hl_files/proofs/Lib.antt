@@ -1,0 +1,5 @@
+mod Ones
+mod Readings
+mod Tuples
+mod Turning
+mod Typing

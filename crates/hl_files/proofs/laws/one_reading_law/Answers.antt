@@ -1,0 +1,5 @@
+use Rattle.hl_files.proofs.Ones.{one_reading}
+use Rattle.hl_files.proofs.laws.one_reading_law.Goals as goal
+
+pub returns : goal.returns
+returns c = one_reading

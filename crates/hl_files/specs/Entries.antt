@@ -1,0 +1,72 @@
+-- Entries of data files: `{"value": "TEXT", "type": "TEXT"}`, whatever further members there are.
+use Rattle.std.specs.Prelude.{◌≡◌, ◌≢◌, ℕ, List, [], Some, Ok, codes}
+use Rattle.std.specs.List.{All}
+use Rattle.hl_data.specs.declared.value.Entry.{Entry}
+use Rattle.hl_data.specs.declared.value.HlValue.{HlValue}
+use Rattle.hl_syntax.specs.declared.kinds.HlType.{HlType}
+use Rattle.hl_syntax.specs.declared.token.Token.{Token}
+use Rattle.hl_syntax.specs.declared.tree.TypeText.{TypeText}
+use Rattle.serde_json.specs.Data.{Data}
+use Rattle.hl_files.specs.Objects.{text_at}
+use Rattle.hl_values.specs.Of.{IsValueOf}
+use Rattle.hl_values.specs.Reads.{IsNoValueText}
+use Rattle.hl_values.specs.Written.{IsValueText}
+use Rattle.simplicityhl.specs.Grammar as grammar
+use Rattle.simplicityhl.specs.Grammar.{Stands, most_depth}
+use Rattle.simplicityhl.specs.Kinds.{IsSound}
+use Rattle.simplicityhl.specs.Tokens.{tokens}
+use Rattle.simplicityhl.specs.Written.{walk}
+
+-- the text is a type text, for the type: its tokens are a type of the grammar, nowhere nested too deep, which without aliases
+-- stands for the type and breaks nothing
+pub record IsTypeText (text : List ℕ) (kind : HlType) : Type 0 where
+  pub found : List Token
+  pub tree : TypeText
+  pub lexed : tokens text ≡ Ok found
+  pub stands : Stands grammar.type most_depth found tree
+  pub walked : walk [] tree ≡ Ok kind
+
+-- an entry with a type, and with the text of its value
+pub record IsTyped (entry : Data) (kind : HlType) (text : List ℕ) : Type 0 where
+  pub type_text : List ℕ
+  pub type : text_at (codes "type") entry ≡ Some type_text
+  pub typed : IsTypeText type_text kind
+  pub valued : text_at (codes "value") entry ≡ Some text
+
+-- no entry: no object, or one without the two texts, or with a text that is no type text
+pub record IsNoEntry (entry : Data) : Type 0 where
+  pub none : (kind : HlType) (text : List ℕ) → IsTyped entry kind text → ⊥
+
+-- an entry of the type whose text is a value text for the value
+pub record HasValue (entry : Data) (kind : HlType) (value : HlValue) : Type 0 where
+  pub text : List ℕ
+  pub typed : IsTyped entry kind text
+  pub valued : IsValueText text kind value
+
+-- an entry whose text is no value text of its type
+pub record HasNoValue (entry : Data) : Type 0 where
+  pub kind : HlType
+  pub text : List ℕ
+  pub typed : IsTyped entry kind text
+  pub none : IsNoValueText text kind
+
+-- an entry of another type
+pub record HasOtherType (entry : Data) (wanted : HlType) : Type 0 where
+  pub kind : HlType
+  pub text : List ℕ
+  pub typed : IsTyped entry kind text
+  pub other : kind ≢ wanted
+
+-- an entry of the type whose text is no value text of it
+pub record HasNoValueOf (entry : Data) (kind : HlType) : Type 0 where
+  pub text : List ℕ
+  pub typed : IsTyped entry kind text
+  pub none : IsNoValueText text kind
+
+-- an entry with a sound type and a value of it
+pub record IsValued (entry : Entry) : Type 0 where
+  pub sound : IsSound entry.kind
+  pub of : IsValueOf entry.value entry.kind
+
+abbrev pub AreValued : List Entry → Type 0
+AreValued entries = All IsValued entries

@@ -1,0 +1,6 @@
+pub mod Answers
+pub mod Entries
+pub mod Objects
+pub mod Params
+pub mod Reads
+pub mod Turns

@@ -1,0 +1,8 @@
+pub mod Layers
+pub mod Numbers
+pub mod One
+pub mod Parts
+pub mod Pieces
+pub mod RoundTrip
+pub mod Shallow
+pub mod Standing
