@@ -1,4 +1,5 @@
 mod Allowed
 mod Answering
-mod Sources
 mod OneOutcome
+mod Small
+mod Reading

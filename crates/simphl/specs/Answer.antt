@@ -1,38 +1,84 @@
--- What an answer of the top call says: of its outcome, of faults and of memory.
-use Rattle.std.specs.Prelude.{◌≡◌, ◌⊎◌, ℕ, List, [], Option, Some, None, IsSome}
+-- What an answer of the top call says: of its outcome, of reads, of faults and of memory.
+use Rattle.std.specs.Prelude.{◌≡◌, ◌⊎◌, ℕ, zero, suc, ◌≤◌, List, [], ◌∷◌, ◌++◌, length, slice_get, Option, Some, None, IsSome}
 use Rattle.outside.specs.Counts.{raised, HasRisen}
 use Rattle.outside.specs.Files.{Held}
 use Rattle.outside.specs.Sink.{Gained, GainedFront}
-use Rattle.simphl.specs.declared.status.Status.{Status}
-use Rattle.simphl.specs.declared.status.Status.TheVariants.{Done, ReadFault, WriteFault, NoMemory}
-use Rattle.simphl.specs.Outcome.{IsOutcome}
-use Rattle.simphl.specs.Texts.{read_line, no_memory_line, write_line}
-use Rattle.simphl.specs.Words.{Reading, BuildOf, Misfit}
+use Rattle.command_outcome.specs.declared.status.Status.{Status}
+use Rattle.command_outcome.specs.declared.status.Status.TheVariants.{Done, ReadFault, WriteFault, NoMemory}
+use Rattle.command_outcome.specs.Answer.{IsRefusal}
+use Rattle.command_outcome.specs.Texts.{read_line, no_memory_line, write_line}
+use Rattle.command_words.specs.Words.{Evaluation, Reading, BuildOf, EvalOf, Misfit}
+use Rattle.simphl.specs.Outcome.{Contents, IsOutcome}
 
 -- a sink as its caller knows it: its contents, where they are told, and its count of faults
 pub record SinkState : Type 0 where
   pub contents : Option (List ℕ)
   pub faults : ℕ
 
--- what the named file holds: what is told, and where nothing is told some bytes
+-- a store of files as its caller knows it before and after a command: what it tells, its counts of faults and of reads
+pub record StoreStates : Type 0 where
+  pub held : Held
+  pub faults : ℕ
+  pub faults_after : ℕ
+  pub reads : ℕ
+  pub reads_after : ℕ
+
+-- what a named file holds: what is told, and where nothing is told some bytes
 abbrev pub Holds : Held → List ℕ → Option (List ℕ) → Type 0
 Holds (Some file_of) name file = file_of name ≡ file
 Holds None name file = IsSome file
 
-abbrev pub HoldsNamed : Held → Reading → Option (List ℕ) → Type 0
-HoldsNamed held (BuildOf name asked) file = Holds held name file
-HoldsNamed held (Misfit index) file = file ≡ None
+abbrev pub HoldsAny : Held → Option (List ℕ) → Option (List ℕ) → Type 0
+HoldsAny held None file = Unit {0}
+HoldsAny held (Some name) file = Holds held name file
 
--- the file that the words name first
-abbrev pub NamesFile : Reading → List ℕ → Type 0
-NamesFile (BuildOf name asked) file = name ≡ file
-NamesFile (Misfit index) file = ⊥
+pub record HoldEach (held : Held) (asked : Evaluation) (files : Contents) : Type 0 where
+  pub source : Holds held asked.file files.source
+  pub args : HoldsAny held asked.args files.args
+  pub witness : HoldsAny held asked.witness files.witness
+
+abbrev pub HoldNamed : Held → Reading → Contents → Type 0
+HoldNamed held (BuildOf file asked) files = Holds held file files.source
+HoldNamed held (EvalOf asked) files = HoldEach held asked files
+HoldNamed held (Misfit index) files = Unit {0}
+
+-- the files that the words name, in the order in which they are read
+abbrev pub if_named : Option (List ℕ) → List (List ℕ)
+if_named None = []
+if_named (Some name) = name ∷ []
+
+abbrev pub files_of : Reading → List (List ℕ)
+files_of (BuildOf file asked) = file ∷ []
+files_of (EvalOf asked) = asked.file ∷ (if_named asked.args ++ if_named asked.witness)
+files_of (Misfit index) = []
+
+-- a count of reads after so many more
+abbrev pub raises : ℕ → ℕ → ℕ
+raises zero count = count
+raises (suc more) count = raised (raises more count)
+
+-- of the files that the words name so many were read, each once, the first ones
+pub record HasRead (reading : Reading) (before after : ℕ) : Type 0 where
+  pub count : ℕ
+  pub within : count ≤ length (files_of reading)
+  pub are : after ≡ raises count before
+
+-- the file is the last that was read of those that the words name
+pub record IsLastRead (reading : Reading) (before after : ℕ) (file : List ℕ) : Type 0 where
+  pub place : ℕ
+  pub named : slice_get (files_of reading) place ≡ Some file
+  pub read : after ≡ raises (suc place) before
+
+-- a read fault names the last file that was read
+abbrev pub NamesRead : Reading → ℕ → ℕ → Status → List ℕ → Type 0
+NamesRead reading before after ReadFault err = (file : List ℕ) × IsLastRead reading before after file × (err ≡ read_line file)
+NamesRead reading before after status err = Unit {0}
 
 -- a status with its texts may be answered: they are the outcome's, or a fault of a read, or want of memory
-pub data IsAllowed (reading : Reading) (held : Held) (before after : ℕ) : Status → List ℕ → List ℕ → Type 0 where
-  outcome : {status : Status} {out err : List ℕ} (file : Option (List ℕ)) → HoldsNamed held reading file → IsOutcome reading file status out err → IsAllowed reading held before after status out err
-  read_fault : {out err : List ℕ} (file : List ℕ) → NamesFile reading file → HasRisen before after → out ≡ [] → err ≡ read_line file → IsAllowed reading held before after ReadFault out err
-  no_memory : {out err : List ℕ} → out ≡ [] → err ≡ no_memory_line → IsAllowed reading held before after NoMemory out err
+pub data IsAllowed (reading : Reading) (store : StoreStates) (status : Status) (out err : List ℕ) : Type 0 where
+  outcome : (files : Contents) → HoldNamed store.held reading files → IsOutcome reading files status out err → NamesRead reading store.reads store.reads_after status err → IsAllowed reading store status out err
+  read_fault : (file : List ℕ) → IsLastRead reading store.reads store.reads_after file → HasRisen store.faults store.faults_after → IsRefusal ReadFault (read_line file) status out err → IsAllowed reading store status out err
+  no_memory : IsRefusal NoMemory no_memory_line status out err → IsAllowed reading store status out err
 
 -- the sink gained this text and no fault was counted
 pub record Took (before after : SinkState) (text : List ℕ) : Type 0 where
@@ -65,8 +111,3 @@ pub data IsUnwritten (Allowed : Status → List ℕ → List ℕ → Type 0) (ou
 abbrev pub IsAnswer : (Status → List ℕ → List ℕ → Type 0) → Status → SinkState → SinkState → SinkState → SinkState → Type 0
 IsAnswer Allowed WriteFault out out' err err' = IsUnwritten Allowed out out' err err'
 IsAnswer Allowed status out out' err err' = IsWritten (Allowed status) out out' err err'
-
--- each named file was read once
-abbrev pub HasRead : Reading → ℕ → ℕ → Type 0
-HasRead (BuildOf name asked) before after = after ≡ raised before
-HasRead (Misfit index) before after = after ≡ before

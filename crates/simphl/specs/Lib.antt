@@ -1,9 +1,5 @@
-pub mod Status
-pub mod Words
-pub mod Texts
 pub mod Build
 pub mod Outcome
 pub mod Answer
-pub mod Asked
 pub mod Built
 pub mod Answered

@@ -1,61 +1,63 @@
--- The outcome of a command: its status and its texts, by its words and by the file that they name.
-use Rattle.std.specs.Prelude.{◌≡◌, ℕ, ◌+◌, ◌<◌, ◌≤◌, List, [], length, Option, Some, None, Ok, Err, codes, IsUtf8}
-use Rattle.std.specs.Str.{IsValidUpTo}
-use Rattle.hl_syntax.specs.declared.token.Span.{Span}
-use Rattle.hl_syntax.specs.declared.token.Token.{Token}
-use Rattle.hl_syntax.specs.declared.tree.Item.{Item}
-use Rattle.simplicityhl.specs.Grammar.{Stands, most_depth, program}
-use Rattle.simplicityhl.specs.Tokens.{Fault, Lexed, tokens}
-use Rattle.simplicityhl.specs.Tokens as fault
-use Rattle.simplicityhl.specs.Viable.{IsFirstDeep, IsSyntaxError}
+-- The outcome of a command: its status and its texts, by its words and by the files that they name.
+use Rattle.std.specs.Prelude.{◌≡◌, ℕ, ◌+◌, ◌<◌, ◌≤◌, List, length, Option, Some, None, codes}
 use Rattle.small_source.specs.Small.{Small, IsSmall}
 use Rattle.small_terms.specs.Result.{first_unknown}
-use Rattle.simphl.specs.declared.status.Status.{Status}
-use Rattle.simphl.specs.declared.status.Status.TheVariants as status
-use Rattle.simphl.specs.Words.{Reading, BuildOf, Misfit}
-use Rattle.simphl.specs.Texts.{words_line, read_line, limit_line, source_line}
+use Rattle.command_outcome.specs.declared.status.Status.{Status}
+use Rattle.command_outcome.specs.declared.status.Status.TheVariants.{SourceRefused, WordsRefused, ReadFault}
+use Rattle.command_outcome.specs.Answer.{Answer, IsDone, IsOne, IsRefusal}
+use Rattle.command_outcome.specs.Source.{IsPassed, IsSource}
+use Rattle.command_outcome.specs.Texts.{words_line, read_line, source_line}
+use Rattle.command_words.specs.Words.{Evaluation, Reading, BuildOf, EvalOf, Misfit}
+use Rattle.eval_command.specs.Evaluation.{Given, IsEvaluation}
 use Rattle.simphl.specs.Build.{IsBuild}
 
--- the greatest source, in bytes
+-- the greatest source and the greatest data file, in bytes
 abbrev pub most_source : ℕ
 most_source = 262144
 
+abbrev pub most_data : ℕ
+most_data = 1048576
+
+-- what the files hold that the words name: the source, and the data files
+pub record Contents : Type 0 where
+  pub source : Option (List ℕ)
+  pub args : Option (List ℕ)
+  pub witness : Option (List ℕ)
+
+-- of a file by what it holds: there is none, or it is longer than the limit, or its bytes decide
+pub data IsFileRead (name : List ℕ) (most : ℕ) (limit : List ℕ) (Next : List ℕ → Answer) (file : Option (List ℕ)) (status : Status) (out err : List ℕ) : Type 0 where
+  not_held : file ≡ None → IsRefusal ReadFault (read_line name) status out err → IsFileRead name most limit Next file status out err
+  too_long : (bytes : List ℕ) → file ≡ Some bytes → most < length bytes → IsPassed limit status out err → IsFileRead name most limit Next file status out err
+  whole : (bytes : List ℕ) → file ≡ Some bytes → length bytes ≤ most → Next bytes status out err → IsFileRead name most limit Next file status out err
+
+-- of a data file that the words may name
+abbrev pub IsDataRead : Option (List ℕ) → (Option (List ℕ) → Answer) → Option (List ℕ) → Answer
+IsDataRead None Next file = Next None
+IsDataRead (Some name) Next file = IsFileRead name most_data (codes "L10") (λ bytes. Next (Some bytes)) file
+
 -- of a text that is a program
-pub data IsSmallOutcome (text asked : List ℕ) : Status → List ℕ → List ℕ → Type 0 where
-  not_small : {out err : List ℕ} → ((f : Small) → ¬ IsSmall text asked f) → out ≡ [] → err ≡ source_line (codes "NotYet") 0 0 → IsSmallOutcome text asked status.SourceRefused out err
-  unknown_name : {out err : List ℕ} {start count : ℕ} (f : Small) → IsSmall text asked f → first_unknown f.parameters f.body ≡ Some (start, count) → out ≡ [] → err ≡ source_line (codes "K4") start (start + count) → IsSmallOutcome text asked status.SourceRefused out err
-  built : {out err : List ℕ} → IsBuild text asked out → err ≡ [] → IsSmallOutcome text asked status.Done out err
+pub data IsSmallOutcome (text asked : List ℕ) (status : Status) (out err : List ℕ) : Type 0 where
+  not_small : ((f : Small) → ¬ IsSmall text asked f) → IsRefusal SourceRefused (source_line (codes "NotYet") 0 0) status out err → IsSmallOutcome text asked status out err
+  unknown_name : (f : Small) (start count : ℕ) → IsSmall text asked f → first_unknown f.parameters f.body ≡ Some (start, count) → IsRefusal SourceRefused (source_line (codes "K4") start (start + count)) status out err → IsSmallOutcome text asked status out err
+  built : (line : List ℕ) → IsBuild text asked line → IsDone line status out err → IsSmallOutcome text asked status out err
 
--- of a text whose first fault this is
-abbrev pub IsFault : Fault → Span → Status → List ℕ → List ℕ → Type 0
-IsFault fault.bad_character span answer out err = (answer ≡ status.SourceRefused) × (out ≡ []) × (err ≡ source_line (codes "BadCharacter") span.start span.end)
-IsFault fault.open_comment span answer out err = (answer ≡ status.SourceRefused) × (out ≡ []) × (err ≡ source_line (codes "OpenComment") span.start span.end)
-IsFault fault.literal_too_large span answer out err = (answer ≡ status.LimitReached) × (out ≡ []) × (err ≡ limit_line (codes "L3"))
+abbrev pub IsBuildOutcome : List ℕ → List ℕ → Answer
+IsBuildOutcome asked text = IsSource text (λ tree. IsSmallOutcome text asked)
 
--- of tokens, in a text that ends there: something in them is nested too deep, or they are no program, or they are one
-pub data IsParsedOutcome (found : List Token) (end : ℕ) (Next : Status → List ℕ → List ℕ → Type 0) : Status → List ℕ → List ℕ → Type 0 where
-  too_deep : {out err : List ℕ} (at : Span) → IsFirstDeep program found at → out ≡ [] → err ≡ limit_line (codes "L2") → IsParsedOutcome found end Next status.LimitReached out err
-  syntax : {out err : List ℕ} (at : Span) → IsSyntaxError program found end at → out ≡ [] → err ≡ source_line (codes "Syntax") at.start at.end → IsParsedOutcome found end Next status.SourceRefused out err
-  parsed : {answer : Status} {out err : List ℕ} (tree : List Item) → Stands program most_depth found tree → Next answer out err → IsParsedOutcome found end Next answer out err
+abbrev pub given : Evaluation → Option (List ℕ) → Option (List ℕ) → Given
+given asked args witness = record { function = asked.function; args = args; witness = witness; input = asked.input }
 
--- of a text that ends there, by its tokens or its first fault
-abbrev pub IsLexedOutcome : Lexed → ℕ → (Status → List ℕ → List ℕ → Type 0) → Status → List ℕ → List ℕ → Type 0
-IsLexedOutcome (Ok found) end Next answer out err = IsParsedOutcome found end Next answer out err
-IsLexedOutcome (Err refusal) end Next answer out err = IsFault refusal.fault refusal.span answer out err
+-- the files are read in the order source, args, wit, and then the source is evaluated
+abbrev pub IsEvalOutcome : Evaluation → Contents → Answer
+IsEvalOutcome asked files =
+    IsFileRead asked.file most_source (codes "L1") (λ text. IsDataRead asked.args (λ args. IsDataRead asked.witness (λ witness. IsEvaluation (given asked args witness) text) files.witness) files.args) files.source
 
--- of the bytes of a source: they are refused from the longest front on that is UTF-8, or they are text
-pub data IsSourceOutcome (text asked : List ℕ) : Status → List ℕ → List ℕ → Type 0 where
-  not_utf8 : {out err : List ℕ} (at : ℕ) → IsValidUpTo text at → out ≡ [] → err ≡ source_line (codes "NotUtf8") at (at + 1) → IsSourceOutcome text asked status.SourceRefused out err
-  is_text : {answer : Status} {out err : List ℕ} → IsUtf8 text → IsLexedOutcome (tokens text) (length text) (IsSmallOutcome text asked) answer out err → IsSourceOutcome text asked answer out err
-
--- what the words ask for and what the file holds give this status, this text on `out` and this one on `err`
-pub data IsOutcome : Reading → Option (List ℕ) → Status → List ℕ → List ℕ → Type 0 where
-  words_refused : {index : ℕ} {file : Option (List ℕ)} {out err : List ℕ} → out ≡ [] → err ≡ words_line index → IsOutcome (Misfit index) file status.WordsRefused out err
-  not_held : {name asked out err : List ℕ} → out ≡ [] → err ≡ read_line name → IsOutcome (BuildOf name asked) None status.ReadFault out err
-  too_long : {name asked text out err : List ℕ} → most_source < length text → out ≡ [] → err ≡ limit_line (codes "L1") → IsOutcome (BuildOf name asked) (Some text) status.LimitReached out err
-  source : {name asked text out err : List ℕ} {answer : Status} → length text ≤ most_source → IsSourceOutcome text asked answer out err → IsOutcome (BuildOf name asked) (Some text) answer out err
+-- what the words ask for and what the files hold give this status, this text on `out` and this one on `err`
+abbrev pub IsOutcome : Reading → Contents → Answer
+IsOutcome (Misfit index) files = IsRefusal WordsRefused (words_line index)
+IsOutcome (BuildOf file asked) files = IsFileRead file most_source (codes "L1") (IsBuildOutcome asked) files.source
+IsOutcome (EvalOf asked) files = IsEvalOutcome asked files
 
 -- there is one status, and one text on `err`
 abbrev pub OutcomeIsOne : Type 0
-OutcomeIsOne =
-    (reading : Reading) (file : Option (List ℕ)) (s t : Status) (o p e f : List ℕ) → IsOutcome reading file s o e → IsOutcome reading file t p f → (s ≡ t) × (e ≡ f)
+OutcomeIsOne = (reading : Reading) (files : Contents) → IsOne (IsOutcome reading files)

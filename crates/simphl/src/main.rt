@@ -2,14 +2,11 @@
 #![tactic(auto)]
 
 mod build;
+mod files;
 mod outcome;
-mod source;
-mod status;
 #[cfg(test)]
 mod tests;
-mod texts;
 mod top;
-mod words;
 
 use outside::{HostFiles, StdSink};
 use std::env;

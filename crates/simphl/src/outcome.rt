@@ -1,86 +1,93 @@
 //! What a command answers, before it is written.
 
-ghost use Rattle.std.specs.Prelude.{◌≡◌, ◌≤◌, IfOk};
-ghost use Rattle.simphl.specs.Answer.{HasRead};
-ghost use Rattle.simphl.specs.Answered.{IsAllowedAs, IsFaultOutcome};
+ghost use Rattle.std.specs.Prelude.{◌≡◌, ◌≤◌};
+ghost use Rattle.command_outcome.specs.Stops.{Gives};
+ghost use Rattle.command_words.specs.Asked.{evaluation_of};
+ghost use Rattle.command_words.specs.Words.{BuildOf, EvalOf, reading, texts};
+ghost use Rattle.simphl.specs.Answer.{HasRead, IsAllowed};
 ghost use Rattle.simphl.specs.Outcome.{OutcomeIsOne};
-ghost use Rattle.simphl.specs.Words.{BuildOf, reading, texts};
 
-use crate::source::compose_source;
-use crate::status::Status;
-use crate::texts::{limit_text, read_text, words_text};
-use crate::words::{Asked, read_words};
-use hl_grammar::program_fronts_law;
-use outside::{FileRefusal, Files};
-use std::alloc::{AllocError, Global};
+use crate::build::build_source;
+use crate::files::{lent, read_data, read_file};
+use command_outcome::{Stop, refused_words};
+use command_words::{Asked, EvalWords, read_words};
+use eval_command::{GivenFiles, evaluate_source, one_evaluation_law};
+use hl_grammar::{one_program_law, program_fronts_law};
+use outside::Files;
+use std::alloc::Global;
 
 /// The greatest source, in bytes.
 const MOST_SOURCE: u64 = 262_144;
 
-/// A status with its text.
-#[derive(Drop)]
-pub enum Outcome {
-    /// The text for `out`.
-    Done(String),
-    /// Another status, and the line for `err`.
-    Refused(Status, String),
-}
-
-/// The outcome of a command; an error is want of memory.
-pub fn compose<F: Files>(
-    alloc: Global,
-    words: &[String],
-    files: &mut F,
-) -> Result<Outcome, AllocError>
+/// The text of a command for `out`, or why there is none.
+pub fn compose<F: Files>(alloc: Global, words: &[String], files: &mut F) -> Result<String, Stop>
     ensures held { F.held files.new ≡ F.held files.old }
     ensures reads { HasRead (reading (texts words.now)) (F.reads files.old) (F.reads files.new) }
     ensures never_fall { F.faults files.old ≤ F.faults files.new }
-    ensures allowed { IfOk result (IsAllowedAs (reading (texts words.now)) (F.held files.old) (F.faults files.old) (F.faults files.new)) }
+    ensures allowed { Gives (IsAllowed (reading (texts words.now)) (record { held = F.held files.old; faults = F.faults files.old; faults_after = F.faults files.new; reads = F.reads files.old; reads_after = F.reads files.new })) result }
 {
     match read_words(words) {
         Asked::Build { file, function } => compose_build(alloc, files, file, function),
-        Asked::Misfit(index) => Ok(Outcome::Refused(
-            Status::WordsRefused,
-            words_text(alloc, index)?,
-        )),
+        Asked::Eval(asked) => compose_eval(alloc, files, asked),
+        Asked::Misfit(index) => Err(refused_words(alloc, index)),
     }
 }
 
-/// The outcome of building a function from the source in a file.
+/// Builds a function of the source in a file.
 fn compose_build<F: Files>(
     alloc: Global,
     files: &mut F,
     file: &str,
-    function: &[u8],
-) -> Result<Outcome, AllocError>
+    function: &str,
+) -> Result<String, Stop>
     ensures held { F.held files.new ≡ F.held files.old }
     ensures reads { HasRead (BuildOf file.now function.now) (F.reads files.old) (F.reads files.new) }
     ensures never_fall { F.faults files.old ≤ F.faults files.new }
-    ensures allowed { IfOk result (IsAllowedAs (BuildOf file.now function.now) (F.held files.old) (F.faults files.old) (F.faults files.new)) }
+    ensures allowed { Gives (IsAllowed (BuildOf file.now function.now) (record { held = F.held files.old; faults = F.faults files.old; faults_after = F.faults files.new; reads = F.reads files.old; reads_after = F.reads files.new })) result }
 {
-    match files.read(alloc, file, MOST_SOURCE) {
-        Ok(text) => Ok(compose_source(alloc, text.as_slice(), function)?),
-        Err(FileRefusal::NotHeld) => Ok(compose_fault(alloc, file)?),
-        Err(FileRefusal::Failed) => Ok(compose_fault(alloc, file)?),
-        Err(FileRefusal::TooLong) => Ok(Outcome::Refused(
-            Status::LimitReached,
-            limit_text(alloc, "L1")?,
-        )),
-        Err(FileRefusal::OutOfMemory) => Err(AllocError),
+    match read_file(alloc, files, file, MOST_SOURCE, "L1") {
+        Ok(source) => build_source(alloc, source.as_slice(), function),
+        Err(stop) => Err(stop),
     }
 }
 
-/// The outcome of a file that isn't read.
-fn compose_fault(alloc: Global, file: &str) -> Result<Outcome, AllocError>
-    ensures { IfOk result (IsFaultOutcome file.now) }
+/// Evaluates a function of the source in a file, with the data files that are named.
+fn compose_eval<F: Files>(
+    alloc: Global,
+    files: &mut F,
+    asked: EvalWords<'_>,
+) -> Result<String, Stop>
+    ensures held { F.held files.new ≡ F.held files.old }
+    ensures reads { HasRead (EvalOf (evaluation_of asked.entry)) (F.reads files.old) (F.reads files.new) }
+    ensures never_fall { F.faults files.old ≤ F.faults files.new }
+    ensures allowed { Gives (IsAllowed (EvalOf (evaluation_of asked.entry)) (record { held = F.held files.old; faults = F.faults files.old; faults_after = F.faults files.new; reads = F.reads files.old; reads_after = F.reads files.new })) result }
 {
-    let line = read_text(alloc, file)?;
-    Ok(Outcome::Refused(Status::ReadFault, line))
+    let source = match read_file(alloc, files, asked.file, MOST_SOURCE, "L1") {
+        Ok(source) => source,
+        Err(stop) => return Err(stop),
+    };
+    let args = match read_data(alloc, files, asked.args) {
+        Ok(args) => args,
+        Err(stop) => return Err(stop),
+    };
+    let witness = match read_data(alloc, files, asked.witness) {
+        Ok(witness) => witness,
+        Err(stop) => return Err(stop),
+    };
+    let given = GivenFiles {
+        function: asked.function,
+        args: lent(&args),
+        witness: lent(&witness),
+        input: asked.input,
+    };
+    evaluate_source(alloc, source.as_slice(), given)
 }
 
 /// The law that an outcome is one: its status, and its text for standard error.
 pub fn one_outcome()
     ensures { OutcomeIsOne }
 {
+    one_program_law();
     program_fronts_law();
+    one_evaluation_law();
 }

@@ -1,7 +1,7 @@
 //! Commands over files and sinks in memory.
 
-use crate::status::Status;
 use crate::top::simphl;
+use command_outcome::Status;
 use outside::{MemoryFiles, MemorySink};
 use std::alloc::{AllocError, Global};
 use std::test::Fail;
@@ -11,6 +11,9 @@ const ROOM: usize = 80;
 
 /// The greatest source, in bytes.
 const MOST_SOURCE: usize = 262_144;
+
+/// The greatest data file, in bytes.
+const MOST_DATA: usize = 1_048_576;
 
 const SWAP: &str = "fn swap(x: u8, y: u8) -> (u8, u8) { (y, x) }";
 
@@ -162,7 +165,7 @@ static SOURCES: [(&str, &str, Status, &str); 26] = [
 ];
 
 /// Words that are refused, and the index at which they are.
-static WORDS: [(&[&str], &str); 12] = [
+static WORDS: [(&[&str], &str); 22] = [
     (&[], "words at 0\n"),
     (&["built", "a.hl", "fn=swap"], "words at 0\n"),
     (&["build"], "words at 1\n"),
@@ -175,6 +178,422 @@ static WORDS: [(&[&str], &str); 12] = [
     (&["build", "a.hl", "name=swap"], "words at 2\n"),
     (&["build", "a.hl", "fn=swap", "more"], "words at 3\n"),
     (&["build", "a.hl", "fn=swap", ""], "words at 3\n"),
+    (&["build", "a.hl", "args=p", "fn=swap"], "words at 2\n"),
+    (&["eval"], "words at 1\n"),
+    (&["eval", "a.hl", "fn"], "words at 2\n"),
+    (&["eval", "a.hl", "fn=swap", "fn=swap"], "words at 3\n"),
+    (&["eval", "a.hl", "edition=1", "edition=2"], "words at 3\n"),
+    (&["eval", "a.hl", "edition=2"], "words at 2\n"),
+    (&["eval", "a.hl", "wit=", "args="], "words at 2\n"),
+    (&["eval", "a.hl", "input=1", "bad", "worse"], "words at 3\n"),
+    (&["eval", "a.hl", "from=u8"], "words at 2\n"),
+    (&["root", "a.hl", "fn=swap"], "words at 0\n"),
+];
+
+/// A source with its data files, the words after its name, the status, and the text on `out` or, of a refusal, on `err`.
+struct Evaluated {
+    source: &'static str,
+    args: &'static str,
+    witness: &'static str,
+    words: &'static [&'static str],
+    status: Status,
+    text: &'static str,
+}
+
+/// The parameters' file is `p`, the witnesses' file `w`.
+static EVALUATED: [Evaluated; 49] = [
+    Evaluated {
+        source: "fn f(a: u8, b: u8) -> (bool, u8) { jet::add_8(a, b) }",
+        args: "",
+        witness: "",
+        words: &["fn=f", "input=(255, 1)"],
+        status: Status::Done,
+        text: "value: (true, 0)\n",
+    },
+    Evaluated {
+        source: "fn f(a: u8, b: u8) -> (bool, u8) { jet::subtract_8(a, b) }",
+        args: "",
+        witness: "",
+        words: &["input=(0, 1)", "fn=f"],
+        status: Status::Done,
+        text: "value: (true, 255)\n",
+    },
+    Evaluated {
+        source: "fn f() -> (u8, u8) { jet::div_mod_8(7, 0) }",
+        args: "",
+        witness: "",
+        words: &["fn=f"],
+        status: Status::Done,
+        text: "value: (0, 7)\n",
+    },
+    Evaluated {
+        source: "fn f() -> u16 { jet::full_multiply_8(255, 255, 255, 255) }",
+        args: "",
+        witness: "",
+        words: &["fn=f"],
+        status: Status::Done,
+        text: "value: 65535\n",
+    },
+    Evaluated {
+        source: "fn f() -> bool { jet::divides_8(0, 5) }",
+        args: "",
+        witness: "",
+        words: &["fn=f"],
+        status: Status::Done,
+        text: "value: false\n",
+    },
+    Evaluated {
+        source: "fn f() -> bool { jet::divides_8(0, 0) }",
+        args: "",
+        witness: "",
+        words: &["fn=f"],
+        status: Status::Done,
+        text: "value: true\n",
+    },
+    Evaluated {
+        source: "fn f() -> u8 { jet::left_shift_8(8, 255) }",
+        args: "",
+        witness: "",
+        words: &["fn=f"],
+        status: Status::Done,
+        text: "value: 0\n",
+    },
+    Evaluated {
+        source: "fn f() -> u8 { jet::left_rotate_8(8, 77) }",
+        args: "",
+        witness: "",
+        words: &["fn=f"],
+        status: Status::Done,
+        text: "value: 77\n",
+    },
+    Evaluated {
+        source: "fn f() -> u8 { jet::right_shift_with_8(true, 3, 0) }",
+        args: "",
+        witness: "",
+        words: &["fn=f"],
+        status: Status::Done,
+        text: "value: 224\n",
+    },
+    Evaluated {
+        source: "fn step(x: u8, acc: u8) -> u8 { jet::xor_8(x, jet::left_shift_8(1, acc)) } fn f(l: List<u8, 4>) -> u8 { fold::<step, 4>(l, 0) }",
+        args: "",
+        witness: "",
+        words: &["fn=f", "input=list![]"],
+        status: Status::Done,
+        text: "value: 0\n",
+    },
+    Evaluated {
+        source: "fn step(x: u8, acc: u8) -> u8 { jet::xor_8(x, jet::left_shift_8(1, acc)) } fn f(l: List<u8, 4>) -> u8 { fold::<step, 4>(l, 0) }",
+        args: "",
+        witness: "",
+        words: &["fn=f", "input=list![5, 6, 7]"],
+        status: Status::Done,
+        text: "value: 31\n",
+    },
+    Evaluated {
+        source: "fn stop(acc: u16, limit: u16, i: u16) -> Either<u16, u16> { match jet::eq_16(i, limit) { true => Left(i), false => Right(i), } } fn f(limit: u16) -> Either<u16, u16> { for_while::<stop>(0, limit) }",
+        args: "",
+        witness: "",
+        words: &["fn=f", "input=65535"],
+        status: Status::Done,
+        text: "value: Left(65535)\n",
+    },
+    Evaluated {
+        source: "fn go(acc: u16, c: (), i: u16) -> Either<(), u16> { Right(i) } fn f() -> Either<(), u16> { for_while::<go>(0, ()) }",
+        args: "",
+        witness: "",
+        words: &["fn=f"],
+        status: Status::Done,
+        text: "value: Right(65535)\n",
+    },
+    Evaluated {
+        source: "fn main() { assert!(false); }",
+        args: "",
+        witness: "",
+        words: &[],
+        status: Status::ProgramFailed,
+        text: "failed\n",
+    },
+    Evaluated {
+        source: "fn add_amount(amount: u64, sum: u64) -> u64 { let (carry, total): (bool, u64) = jet::add_64(amount, sum); match carry { true => panic!(), false => total, } } fn main() { let amounts: [u64; 3] = witness::AMOUNTS; let rate: u32 = param::RATE; let sum: u64 = array_fold::<add_amount, 3>(amounts, 0); let limit: u64 = jet::multiply_32(rate, 1000); match witness::PATH { Left(code: u32) => assert!(jet::eq_32(code, 0x2a2b2c2d)), Right(none: ()) => assert!(jet::lt_64(sum, limit)), } }",
+        args: "{\"RATE\": {\"value\": \"25\", \"type\": \"u32\"}}",
+        witness: "{\"AMOUNTS\": {\"value\": \"[1000, 2000, 3000]\", \"type\": \"[u64; 3]\"}, \"PATH\": {\"value\": \"Right(())\", \"type\": \"Either<u32, ()>\"}, \"OLD\": {}}",
+        words: &["args=p", "wit=w", "edition=1"],
+        status: Status::Done,
+        text: "value: ()\n",
+    },
+    Evaluated {
+        source: "fn add_amount(amount: u64, sum: u64) -> u64 { let (carry, total): (bool, u64) = jet::add_64(amount, sum); match carry { true => panic!(), false => total, } } fn main() { let amounts: [u64; 3] = witness::AMOUNTS; let rate: u32 = param::RATE; let sum: u64 = array_fold::<add_amount, 3>(amounts, 0); let limit: u64 = jet::multiply_32(rate, 1000); match witness::PATH { Left(code: u32) => assert!(jet::eq_32(code, 0x2a2b2c2d)), Right(none: ()) => assert!(jet::lt_64(sum, limit)), } }",
+        args: "{\"RATE\": {\"value\": \"25\", \"type\": \"u32\"}}",
+        witness: "{\"AMOUNTS\": {\"value\": \"[1000, 2000, 3000]\", \"type\": \"[u64; 3]\"}, \"PATH\": {\"value\": \"Left(0)\", \"type\": \"Either<u32, ()>\"}, \"OLD\": {}}",
+        words: &["wit=w", "args=p"],
+        status: Status::ProgramFailed,
+        text: "failed\n",
+    },
+    Evaluated {
+        source: "fn main() { x }",
+        args: "",
+        witness: "",
+        words: &[],
+        status: Status::SourceRefused,
+        text: "source K4 at 12..13\n",
+    },
+    Evaluated {
+        source: "fn main() { let x: u8 = 256; }",
+        args: "",
+        witness: "",
+        words: &[],
+        status: Status::SourceRefused,
+        text: "source K7 at 24..27\n",
+    },
+    Evaluated {
+        source: "fn main() { jet::bip_0340_verify(); }",
+        args: "",
+        witness: "",
+        words: &[],
+        status: Status::SourceRefused,
+        text: "source K22 at 17..32\n",
+    },
+    Evaluated {
+        source: "fn f(x: [u64; 65536]) {}",
+        args: "",
+        witness: "",
+        words: &["fn=f"],
+        status: Status::LimitReached,
+        text: "limit L5\n",
+    },
+    Evaluated {
+        source: "fn f(x: [u8; 65537]) {}",
+        args: "",
+        witness: "",
+        words: &["fn=f"],
+        status: Status::LimitReached,
+        text: "limit L4\n",
+    },
+    Evaluated {
+        source: "fn f(",
+        args: "",
+        witness: "",
+        words: &["fn=f"],
+        status: Status::SourceRefused,
+        text: "source Syntax at 5..5\n",
+    },
+    Evaluated {
+        source: "fn f() {}",
+        args: "",
+        witness: "",
+        words: &[],
+        status: Status::SourceRefused,
+        text: "source K20 at 9..9\n",
+    },
+    Evaluated {
+        source: "fn main() { let x: (u8, u16) = witness::X; let (a, b): (u8, u16) = x; assert!(jet::eq_8(a, 7)); }",
+        args: "",
+        witness: "{\"X\": {\"value\": \"300\", \"type\": \"(u8, u16)\"}}",
+        words: &["wit=w"],
+        status: Status::DataRefused,
+        text: "data BadValue X\n",
+    },
+    Evaluated {
+        source: "fn main() { let x: (u8, u16) = witness::X; let (a, b): (u8, u16) = x; assert!(jet::eq_8(a, 7)); }",
+        args: "",
+        witness: "{}",
+        words: &["wit=w"],
+        status: Status::DataRefused,
+        text: "data Missing X\n",
+    },
+    Evaluated {
+        source: "fn main() { let x: (u8, u16) = witness::X; let (a, b): (u8, u16) = x; assert!(jet::eq_8(a, 7)); }",
+        args: "",
+        witness: "",
+        words: &[],
+        status: Status::DataRefused,
+        text: "data Missing X\n",
+    },
+    Evaluated {
+        source: "fn main() { let x: (u8, u16) = witness::X; let (a, b): (u8, u16) = x; assert!(jet::eq_8(a, 7)); }",
+        args: "",
+        witness: "{\"X\": {\"value\": \"300\", \"type\": \"u16\"}}",
+        words: &["wit=w"],
+        status: Status::DataRefused,
+        text: "data TypeDiffers X\n",
+    },
+    Evaluated {
+        source: "fn main() { let x: (u8, u16) = witness::X; let (a, b): (u8, u16) = x; assert!(jet::eq_8(a, 7)); }",
+        args: "",
+        witness: "{\"X\": {\"value\": \"300\", \"type\": \"Pair\"}}",
+        words: &["wit=w"],
+        status: Status::DataRefused,
+        text: "data BadEntry X\n",
+    },
+    Evaluated {
+        source: "fn main() { let x: (u8, u16) = witness::X; let (a, b): (u8, u16) = x; assert!(jet::eq_8(a, 7)); }",
+        args: "",
+        witness: "{\"X\": [1, 2]}",
+        words: &["wit=w"],
+        status: Status::DataRefused,
+        text: "data BadEntry X\n",
+    },
+    Evaluated {
+        source: "fn main() { let x: (u8, u16) = witness::X; let (a, b): (u8, u16) = x; assert!(jet::eq_8(a, 7)); }",
+        args: "",
+        witness: "{\"X\": 1, \"\\u0058\": {\"value\": \"(7, 9)\", \"type\": \" (u8, u16) // x\", \"more\": [1.5e3]}}",
+        words: &["wit=w"],
+        status: Status::Done,
+        text: "value: ()\n",
+    },
+    Evaluated {
+        source: "fn f(x: u8) -> u8 { let x: u8 = 9; x }",
+        args: "",
+        witness: "",
+        words: &["fn=f", "input=4"],
+        status: Status::Done,
+        text: "value: 9\n",
+    },
+    Evaluated {
+        source: "fn f(x: u8) -> u8 { let x: u8 = 9; x }",
+        args: "",
+        witness: "",
+        words: &["fn=f"],
+        status: Status::DataRefused,
+        text: "data Missing input\n",
+    },
+    Evaluated {
+        source: "fn f(x: [u8; 0]) {}",
+        args: "",
+        witness: "",
+        words: &["fn=f"],
+        status: Status::DataRefused,
+        text: "data Missing input\n",
+    },
+    Evaluated {
+        source: "fn f(x: ()) {}",
+        args: "",
+        witness: "",
+        words: &["fn=f"],
+        status: Status::Done,
+        text: "value: ()\n",
+    },
+    Evaluated {
+        source: "fn f(x: u8) -> u8 { let x: u8 = 9; x }",
+        args: "",
+        witness: "",
+        words: &["fn=f", "input=256"],
+        status: Status::DataRefused,
+        text: "data NotValue input\n",
+    },
+    Evaluated {
+        source: "fn f(x: u8) -> u8 { let x: u8 = 9; x }",
+        args: "",
+        witness: "",
+        words: &["fn=f", "input="],
+        status: Status::DataRefused,
+        text: "data NotValue input\n",
+    },
+    Evaluated {
+        source: "fn add_amount(amount: u64, sum: u64) -> u64 { let (carry, total): (bool, u64) = jet::add_64(amount, sum); match carry { true => panic!(), false => total, } } fn main() { let amounts: [u64; 3] = witness::AMOUNTS; let rate: u32 = param::RATE; let sum: u64 = array_fold::<add_amount, 3>(amounts, 0); let limit: u64 = jet::multiply_32(rate, 1000); match witness::PATH { Left(code: u32) => assert!(jet::eq_32(code, 0x2a2b2c2d)), Right(none: ()) => assert!(jet::lt_64(sum, limit)), } }",
+        args: "[",
+        witness: "{\"AMOUNTS\": {\"value\": \"[1000, 2000, 3000]\", \"type\": \"[u64; 3]\"}, \"PATH\": {\"value\": \"Right(())\", \"type\": \"Either<u32, ()>\"}, \"OLD\": {}}",
+        words: &["args=p", "wit=w"],
+        status: Status::DataRefused,
+        text: "data NotJson args\n",
+    },
+    Evaluated {
+        source: "fn add_amount(amount: u64, sum: u64) -> u64 { let (carry, total): (bool, u64) = jet::add_64(amount, sum); match carry { true => panic!(), false => total, } } fn main() { let amounts: [u64; 3] = witness::AMOUNTS; let rate: u32 = param::RATE; let sum: u64 = array_fold::<add_amount, 3>(amounts, 0); let limit: u64 = jet::multiply_32(rate, 1000); match witness::PATH { Left(code: u32) => assert!(jet::eq_32(code, 0x2a2b2c2d)), Right(none: ()) => assert!(jet::lt_64(sum, limit)), } }",
+        args: "[]",
+        witness: "{\"AMOUNTS\": {\"value\": \"[1000, 2000, 3000]\", \"type\": \"[u64; 3]\"}, \"PATH\": {\"value\": \"Right(())\", \"type\": \"Either<u32, ()>\"}, \"OLD\": {}}",
+        words: &["args=p", "wit=w"],
+        status: Status::DataRefused,
+        text: "data NotJson args\n",
+    },
+    Evaluated {
+        source: "fn add_amount(amount: u64, sum: u64) -> u64 { let (carry, total): (bool, u64) = jet::add_64(amount, sum); match carry { true => panic!(), false => total, } } fn main() { let amounts: [u64; 3] = witness::AMOUNTS; let rate: u32 = param::RATE; let sum: u64 = array_fold::<add_amount, 3>(amounts, 0); let limit: u64 = jet::multiply_32(rate, 1000); match witness::PATH { Left(code: u32) => assert!(jet::eq_32(code, 0x2a2b2c2d)), Right(none: ()) => assert!(jet::lt_64(sum, limit)), } }",
+        args: "[",
+        witness: "{}}",
+        words: &["args=p", "wit=w"],
+        status: Status::DataRefused,
+        text: "data NotJson args\n",
+    },
+    Evaluated {
+        source: "fn add_amount(amount: u64, sum: u64) -> u64 { let (carry, total): (bool, u64) = jet::add_64(amount, sum); match carry { true => panic!(), false => total, } } fn main() { let amounts: [u64; 3] = witness::AMOUNTS; let rate: u32 = param::RATE; let sum: u64 = array_fold::<add_amount, 3>(amounts, 0); let limit: u64 = jet::multiply_32(rate, 1000); match witness::PATH { Left(code: u32) => assert!(jet::eq_32(code, 0x2a2b2c2d)), Right(none: ()) => assert!(jet::lt_64(sum, limit)), } }",
+        args: "{\"RATE\": {\"value\": \"25\", \"type\": \"u32\"}}",
+        witness: "{}}",
+        words: &["args=p", "wit=w"],
+        status: Status::DataRefused,
+        text: "data NotJson wit\n",
+    },
+    Evaluated {
+        source: "fn add_amount(amount: u64, sum: u64) -> u64 { let (carry, total): (bool, u64) = jet::add_64(amount, sum); match carry { true => panic!(), false => total, } } fn main() { let amounts: [u64; 3] = witness::AMOUNTS; let rate: u32 = param::RATE; let sum: u64 = array_fold::<add_amount, 3>(amounts, 0); let limit: u64 = jet::multiply_32(rate, 1000); match witness::PATH { Left(code: u32) => assert!(jet::eq_32(code, 0x2a2b2c2d)), Right(none: ()) => assert!(jet::lt_64(sum, limit)), } }",
+        args: "{\"RATE\": {\"value\": \"25\", \"type\": \"u32\"}}",
+        witness: "{\"a\": 1e400}",
+        words: &["args=p", "wit=w"],
+        status: Status::DataRefused,
+        text: "data NotJson wit\n",
+    },
+    Evaluated {
+        source: "fn add_amount(amount: u64, sum: u64) -> u64 { let (carry, total): (bool, u64) = jet::add_64(amount, sum); match carry { true => panic!(), false => total, } } fn main() { let amounts: [u64; 3] = witness::AMOUNTS; let rate: u32 = param::RATE; let sum: u64 = array_fold::<add_amount, 3>(amounts, 0); let limit: u64 = jet::multiply_32(rate, 1000); match witness::PATH { Left(code: u32) => assert!(jet::eq_32(code, 0x2a2b2c2d)), Right(none: ()) => assert!(jet::lt_64(sum, limit)), } }",
+        args: "",
+        witness: "{\"AMOUNTS\": {\"value\": \"[1000, 2000, 3000]\", \"type\": \"[u64; 3]\"}, \"PATH\": {\"value\": \"Right(())\", \"type\": \"Either<u32, ()>\"}, \"OLD\": {}}",
+        words: &["wit=w"],
+        status: Status::SourceRefused,
+        text: "source K18 at 235..239\n",
+    },
+    Evaluated {
+        source: "fn add_amount(amount: u64, sum: u64) -> u64 { let (carry, total): (bool, u64) = jet::add_64(amount, sum); match carry { true => panic!(), false => total, } } fn main() { let amounts: [u64; 3] = witness::AMOUNTS; let rate: u32 = param::RATE; let sum: u64 = array_fold::<add_amount, 3>(amounts, 0); let limit: u64 = jet::multiply_32(rate, 1000); match witness::PATH { Left(code: u32) => assert!(jet::eq_32(code, 0x2a2b2c2d)), Right(none: ()) => assert!(jet::lt_64(sum, limit)), } }",
+        args: "{\"RATE\": {\"value\": \"25\", \"type\": \"u16\"}}",
+        witness: "{}}",
+        words: &["args=p", "wit=w"],
+        status: Status::SourceRefused,
+        text: "source K19 at 235..239\n",
+    },
+    Evaluated {
+        source: "fn add_amount(amount: u64, sum: u64) -> u64 { let (carry, total): (bool, u64) = jet::add_64(amount, sum); match carry { true => panic!(), false => total, } } fn main() { let amounts: [u64; 3] = witness::AMOUNTS; let rate: u32 = param::RATE; let sum: u64 = array_fold::<add_amount, 3>(amounts, 0); let limit: u64 = jet::multiply_32(rate, 1000); match witness::PATH { Left(code: u32) => assert!(jet::eq_32(code, 0x2a2b2c2d)), Right(none: ()) => assert!(jet::lt_64(sum, limit)), } }",
+        args: "{\"RATE\": {\"value\": \"25\"}}",
+        witness: "{\"AMOUNTS\": {\"value\": \"[1000, 2000, 3000]\", \"type\": \"[u64; 3]\"}, \"PATH\": {\"value\": \"Right(())\", \"type\": \"Either<u32, ()>\"}, \"OLD\": {}}",
+        words: &["args=p", "wit=w"],
+        status: Status::DataRefused,
+        text: "data BadEntry RATE\n",
+    },
+    Evaluated {
+        source: "fn add_amount(amount: u64, sum: u64) -> u64 { let (carry, total): (bool, u64) = jet::add_64(amount, sum); match carry { true => panic!(), false => total, } } fn main() { let amounts: [u64; 3] = witness::AMOUNTS; let rate: u32 = param::RATE; let sum: u64 = array_fold::<add_amount, 3>(amounts, 0); let limit: u64 = jet::multiply_32(rate, 1000); match witness::PATH { Left(code: u32) => assert!(jet::eq_32(code, 0x2a2b2c2d)), Right(none: ()) => assert!(jet::lt_64(sum, limit)), } }",
+        args: "{\"RATE\": {\"value\": \"(\", \"type\": \"u32\"}}",
+        witness: "{\"AMOUNTS\": {\"value\": \"[1000, 2000, 3000]\", \"type\": \"[u64; 3]\"}, \"PATH\": {\"value\": \"Right(())\", \"type\": \"Either<u32, ()>\"}, \"OLD\": {}}",
+        words: &["args=p", "wit=w"],
+        status: Status::DataRefused,
+        text: "data BadValue RATE\n",
+    },
+    Evaluated {
+        source: "fn add_amount(amount: u64, sum: u64) -> u64 { let (carry, total): (bool, u64) = jet::add_64(amount, sum); match carry { true => panic!(), false => total, } } fn main() { let amounts: [u64; 3] = witness::AMOUNTS; let rate: u32 = param::RATE; let sum: u64 = array_fold::<add_amount, 3>(amounts, 0); let limit: u64 = jet::multiply_32(rate, 1000); match witness::PATH { Left(code: u32) => assert!(jet::eq_32(code, 0x2a2b2c2d)), Right(none: ()) => assert!(jet::lt_64(sum, limit)), } }",
+        args: "{\"RATE\": {\"value\": \"25\", \"type\": \"u32\"}}",
+        witness: "{\"AMOUNTS\": {\"value\": \"[1, 2, 3]\", \"type\": \"[u64; 3]\"}}",
+        words: &["args=p", "wit=w"],
+        status: Status::DataRefused,
+        text: "data Missing PATH\n",
+    },
+    Evaluated {
+        source: "fn f() -> u8 { 5 }",
+        args: "",
+        witness: "7",
+        words: &["fn=f", "wit=w"],
+        status: Status::DataRefused,
+        text: "data NotJson wit\n",
+    },
+    Evaluated {
+        source: "fn f() -> u8 { 5 }",
+        args: "\\",
+        witness: "",
+        words: &["fn=f", "args=p"],
+        status: Status::DataRefused,
+        text: "data NotJson args\n",
+    },
+    Evaluated {
+        source: "fn f() -> u8 { 5 } fn main() { assert!(witness::X); }",
+        args: "",
+        witness: "",
+        words: &["fn=f"],
+        status: Status::Done,
+        text: "value: 5\n",
+    },
 ];
 
 /// How many bytes of its first piece each sink keeps, where it is to fail.
@@ -237,6 +656,103 @@ fn answers_each_source(rt: HostRuntime) -> Result<(), Fail> {
         };
         assert_eq!(rt; ended.out.bytes(), on_out.as_bytes(), "at {source}");
         assert_eq!(rt; ended.err.bytes(), on_err.as_bytes(), "at {source}");
+    }
+    Ok(())
+}
+
+#[test]
+fn evaluates_each_source(rt: HostRuntime) -> Result<(), Fail> {
+    let alloc = rt.alloc();
+    for row in EVALUATED.iter() {
+        let source = row.source;
+        let mut files = MemoryFiles::new(alloc);
+        files.hold("a.hl", source.as_bytes())?;
+        files.hold("p", row.args.as_bytes())?;
+        files.hold("w", row.witness.as_bytes())?;
+        let mut words = vec![in alloc; "eval", "a.hl"]?;
+        for word in row.words {
+            words.push(*word)?;
+        }
+        let ended = run(alloc, words.as_slice(), &mut files, NO_FAULTS)?;
+        assert_eq!(rt; ended.status, row.status, "at {source}");
+        let (on_out, on_err) = match ended.status {
+            Status::Done => (row.text, ""),
+            _ => ("", row.text),
+        };
+        assert_eq!(rt; ended.out.bytes(), on_out.as_bytes(), "at {source}");
+        assert_eq!(rt; ended.err.bytes(), on_err.as_bytes(), "at {source}");
+    }
+    Ok(())
+}
+
+#[test]
+fn reads_data_files_in_order(rt: HostRuntime) -> Result<(), Fail> {
+    let alloc = rt.alloc();
+    let blanks = vec![in alloc; b' '; MOST_DATA + 1]?;
+    let mut files = MemoryFiles::new(alloc);
+    files.hold("a.hl", b"fn main() {}")?;
+    files.hold("long", blanks.as_slice())?;
+    files.hold("full", &blanks[1..])?;
+    files.hold("empty", b"{}")?;
+    // The second file of the last row.
+    files.fail_at(17)?;
+    let rows: [(&str, &str, &str, Status, &str); 7] = [
+        (
+            "args=long",
+            "wit=none",
+            "",
+            Status::LimitReached,
+            "limit L10\n",
+        ),
+        (
+            "wit=none",
+            "args=long",
+            "",
+            Status::LimitReached,
+            "limit L10\n",
+        ),
+        (
+            "args=empty",
+            "wit=long",
+            "",
+            Status::LimitReached,
+            "limit L10\n",
+        ),
+        (
+            "args=none",
+            "wit=long",
+            "",
+            Status::ReadFault,
+            "read none\n",
+        ),
+        (
+            "args=empty",
+            "wit=none",
+            "",
+            Status::ReadFault,
+            "read none\n",
+        ),
+        (
+            "args=full",
+            "wit=empty",
+            "",
+            Status::DataRefused,
+            "data NotJson args\n",
+        ),
+        (
+            "wit=empty",
+            "args=empty",
+            "",
+            Status::ReadFault,
+            "read empty\n",
+        ),
+    ];
+    for (first, second, on_out, wanted, on_err) in rows {
+        let words = ["eval", "a.hl", first, second];
+        let ended = run(alloc, words.as_slice(), &mut files, NO_FAULTS)?;
+        assert_eq!(rt; ended.status, wanted, "{first} {second}");
+        assert_eq!(rt; ended.out.bytes(), on_out.as_bytes(), "{first} {second}");
+        assert_eq!(rt; ended.err.bytes(), on_err.as_bytes(), "{first} {second}");
     }
     Ok(())
 }

@@ -3,12 +3,12 @@
 ghost use Rattle.std.specs.Prelude.{◌≡◌, ◌≤◌};
 ghost use Rattle.simphl.specs.Answer.{IsAllowed, IsAnswer, HasRead};
 ghost use Rattle.simphl.specs.Answered.{IsPut, IsDelivered};
-ghost use Rattle.simphl.specs.Texts.{no_memory_line};
-ghost use Rattle.simphl.specs.Words.{reading, texts};
-ghost use Rattle.simphl.specs.declared.status.Status.TheVariants.{NoMemory};
+ghost use Rattle.command_outcome.specs.Texts.{no_memory_line};
+ghost use Rattle.command_outcome.specs.declared.status.Status.TheVariants.{NoMemory};
+ghost use Rattle.command_words.specs.Words.{reading, texts};
 
-use crate::outcome::{Outcome, compose};
-use crate::status::Status;
+use crate::outcome::compose;
+use command_outcome::{Status, Stop};
 use outside::{Files, Sink, SinkFailed};
 use std::alloc::Global;
 
@@ -25,12 +25,12 @@ pub fn simphl<F: Files, O: Sink, E: Sink>(
     ensures held { F.held files.new ≡ F.held files.old }
     ensures reads { HasRead (reading (texts words.now)) (F.reads files.old) (F.reads files.new) }
     ensures never_fall { F.faults files.old ≤ F.faults files.new }
-    ensures answer { IsAnswer (IsAllowed (reading (texts words.now)) (F.held files.old) (F.faults files.old) (F.faults files.new)) result (record { contents = O.contents out.old; faults = O.faults out.old }) (record { contents = O.contents out.new; faults = O.faults out.new }) (record { contents = E.contents err.old; faults = E.faults err.old }) (record { contents = E.contents err.new; faults = E.faults err.new }) }
+    ensures answer { IsAnswer (IsAllowed (reading (texts words.now)) (record { held = F.held files.old; faults = F.faults files.old; faults_after = F.faults files.new; reads = F.reads files.old; reads_after = F.reads files.new })) result (record { contents = O.contents out.old; faults = O.faults out.old }) (record { contents = O.contents out.new; faults = O.faults out.new }) (record { contents = E.contents err.old; faults = E.faults err.old }) (record { contents = E.contents err.new; faults = E.faults err.new }) }
 {
     match compose(alloc, words, files) {
-        Ok(Outcome::Done(text)) => deliver(out, err, text.as_bytes()),
-        Ok(Outcome::Refused(status, text)) => refuse(err, status, text.as_bytes()),
-        Err(_) => refuse(err, Status::NoMemory, b"no memory\n"),
+        Ok(text) => deliver(out, err, text.as_bytes()),
+        Err(Stop::Refused { status, line }) => refuse(err, status, line.as_bytes()),
+        Err(Stop::OutOfMemory) => refuse(err, Status::NoMemory, b"no memory\n"),
     }
 }
 

@@ -2,4 +2,4 @@ use Rattle.simphl.proofs.OneOutcome.{one_outcome}
 use Rattle.simphl.proofs.outcome.one_outcome.Goals as goal
 
 pub returns : goal.returns
-returns c = one_outcome c.program_fronts_law.ensures
+returns c = one_outcome c.one_program_law.ensures c.program_fronts_law.ensures c.one_evaluation_law.ensures

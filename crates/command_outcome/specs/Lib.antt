@@ -1,0 +1,5 @@
+pub mod Status
+pub mod Texts
+pub mod Answer
+pub mod Source
+pub mod Stops

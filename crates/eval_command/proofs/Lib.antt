@@ -1,0 +1,4 @@
+mod Sound
+mod Fits
+mod Steps
+pub mod One

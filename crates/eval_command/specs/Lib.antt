@@ -1,0 +1,4 @@
+pub mod Names
+pub mod Evaluation
+pub mod Parts
+pub mod Law
