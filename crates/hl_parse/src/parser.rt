@@ -167,6 +167,3 @@ pub fn parse(alloc: Global, tokens: &[Token], end: u64) -> Result<Program, Parse
 {
     read_program(alloc, tokens, end)
 }
-
-#[cfg(test)]
-mod tests;

@@ -190,21 +190,3 @@ fn seventh(rows: &mut [JetRow], at: usize) -> usize
     let at = families::xor(rows, at);
     families::xor_xor(rows, at)
 }
-
-#[cfg(test)]
-mod tests {
-    use super::*;
-    use std::test::Fail;
-
-    #[test]
-    fn finds_whole_names(rt: HostRuntime) -> Result<(), Fail> {
-        let table = profile();
-        let place = table.find("add_8").unwrap_or(0);
-        assert_eq!(rt; place, 3);
-        assert_eq!(rt; table.row(3).op, Op::Add);
-        assert_eq!(rt; table.row(3).narrow, 8);
-        assert!(rt; table.find("add_7").is_none());
-        assert!(rt; table.find("").is_none());
-        Ok(())
-    }
-}

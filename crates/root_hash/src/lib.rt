@@ -4,8 +4,6 @@
 mod list;
 mod node;
 mod tag;
-#[cfg(test)]
-mod tests;
 mod whole;
 mod word;
 

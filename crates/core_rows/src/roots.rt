@@ -5,9 +5,7 @@ ghost use Rattle.simplicity.specs.Nodes as core;
 ghost use Rattle.simplicity.specs.Nodes.{CanFollow};
 ghost use Rattle.term_core.specs.Nodes.{node_of};
 
-use crate::list::Roots;
-use crate::node::fail_root;
-use crate::whole::roots;
+use root_hash::{Roots, fail_root, roots};
 use std::alloc::{AllocError, Global};
 use std::test::Fail;
 use term_core::{ListNode, NodeList};

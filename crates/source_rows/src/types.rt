@@ -1,10 +1,10 @@
-mod dead_places;
-mod trees;
+//! Types of rows: forms, spans and refusals.
 
-use super::*;
+use crate::refusals::{nested, write_refusal};
 use hl_lex::tokens;
-use hl_syntax::TypeForm;
-use std::alloc::AllocError;
+use hl_parse::parse_type;
+use hl_syntax::{TypeForm, TypeText};
+use std::alloc::{AllocError, Global};
 use std::test::Fail;
 
 /// Texts, and what they are as types: the outermost form with its span, or the refusal.
@@ -45,14 +45,6 @@ fn write_type(text: &mut String, tree: &TypeText) -> Result<(), AllocError> {
     write!(text, " {}..{}", tree.span.start, tree.span.end)
 }
 
-fn write_refusal(text: &mut String, refusal: ParseRefusal) -> Result<(), AllocError> {
-    match refusal {
-        ParseRefusal::Syntax { at } => write!(text, "Syntax {}..{}", at.start, at.end),
-        ParseRefusal::TooDeep { at } => write!(text, "TooDeep {}..{}", at.start, at.end),
-        ParseRefusal::OutOfMemory => text.push_str("OutOfMemory"),
-    }
-}
-
 fn shown(alloc: Global, text: &str) -> Result<String, AllocError> {
     let mut shown = String::new(alloc);
     match tokens(alloc, text) {
@@ -63,19 +55,6 @@ fn shown(alloc: Global, text: &str) -> Result<String, AllocError> {
         Err(_) => shown.push_str("no tokens")?,
     }
     Ok(shown)
-}
-
-/// A text in so many parentheses.
-fn nested(alloc: Global, inner: &str, count: usize) -> Result<String, AllocError> {
-    let mut text = String::new(alloc);
-    for _ in 0..count {
-        text.push_str("(")?;
-    }
-    text.push_str(inner)?;
-    for _ in 0..count {
-        text.push_str(")")?;
-    }
-    Ok(text)
 }
 
 #[test]

@@ -1,8 +1,8 @@
 //! Expressions, value texts and programs of rows: forms, spans and refusals.
 
-use super::{nested, write_refusal};
-use crate::{ParseRefusal, parse, parse_value};
+use crate::refusals::{nested, write_refusal};
 use hl_lex::tokens;
+use hl_parse::{ParseRefusal, parse, parse_value};
 use hl_syntax::{Arms, Expr, ExprForm, Item, Program, Statement, Statements};
 use std::alloc::{AllocError, Global};
 use std::test::Fail;

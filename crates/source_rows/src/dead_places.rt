@@ -1,8 +1,8 @@
 //! Where each rule of the grammar dies: the refusal of a text that breaks it.
 
-use super::write_refusal;
-use crate::{ParseRefusal, parse, parse_value};
+use crate::refusals::write_refusal;
 use hl_lex::tokens;
+use hl_parse::{ParseRefusal, parse, parse_value};
 use std::alloc::{AllocError, Global};
 use std::test::Fail;
 
