@@ -3,12 +3,14 @@
 
     python3 bench/allocations.py PROGRAM
 
-Each command is run once as it is, and then with its first, its second, .. allocation refused, until forty runs in a row
-answer as the first did. A run with a refused allocation has to answer as the first run, or with status 6, nothing on
-standard output and the line `no memory`. A C compiler named `cc` makes the library that refuses.
+Each command is run once as it is, which counts its allocations, and then once for each of them with that one refused.
+A run with a refused allocation has to answer as the first run, or with status 6, nothing on standard output and the
+line `no memory`. A C compiler named `cc` makes the library that counts and refuses.
 """
 
+import json
 import os
+import shutil
 import subprocess
 import sys
 import tempfile
@@ -17,13 +19,23 @@ REFUSING = r"""
 #define _GNU_SOURCE
 #include <dlfcn.h>
 #include <errno.h>
+#include <fcntl.h>
 #include <stdlib.h>
+#include <unistd.h>
 
 static long count = 0;
 
 static int refused(void) {
-    char *at = getenv("REFUSE_AT");
-    return ++count == (at ? atol(at) : 0);
+    char *at = getenv("REFUSE_AT"), *counted = getenv("COUNT_TO");
+    count++;
+    if (counted) {
+        int file = open(counted, O_WRONLY | O_CREAT, 0600);
+        if (file >= 0) {
+            if (pwrite(file, &count, sizeof count, 0) < 0) abort();
+            close(file);
+        }
+    }
+    return count == (at ? atol(at) : 0);
 }
 
 void *malloc(size_t size) {
@@ -41,6 +53,9 @@ void *realloc(void *block, size_t size) {
 }
 """
 
+EXAMPLES = os.path.join(os.path.dirname(os.path.abspath(__file__)), "..", "examples")
+POLICY = ["policy.hl", "policy.args.json", "policy.wit.json"]
+
 SOURCES = {
     "swap.hl": "fn swap(x: u8, y: u8) -> (u8, u8) { (y, x) }",
     "character.hl": "fn main() { # }",
@@ -57,9 +72,30 @@ COMMANDS = [
     ["build", "deep.hl", "fn=f"],
     ["build", "syntax.hl", "fn=f"],
     ["build", "other.hl", "fn=f"],
+    ["eval", "policy.hl", "args=policy.args.json", "wit=policy.wit.json"],
+    ["eval", "policy.hl", "args=policy.args.json", "wit=failing.wit.json"],
+    ["eval", "policy.hl", "args=policy.args.json"],
+    ["eval", "policy.hl", "wit=policy.wit.json", "args=missing.json"],
+    ["eval", "swap.hl", "fn=swap", "input=(1, 2)"],
+    ["eval", "swap.hl", "fn=swap", "input=(1, 256)"],
+    ["eval", "other.hl", "fn=f"],
+    ["other", "words"],
 ]
 
 NO_MEMORY = (6, b"", b"no memory\n")
+
+
+def write_files(folder):
+    for name, text in SOURCES.items():
+        with open(os.path.join(folder, name), "w", encoding="utf-8") as file:
+            file.write(text)
+    for name in POLICY:
+        shutil.copy(os.path.join(EXAMPLES, name), folder)
+    with open(os.path.join(folder, POLICY[2]), encoding="utf-8") as file:
+        entries = json.load(file)
+    entries["PATH"]["value"] = "Left(1)"
+    with open(os.path.join(folder, "failing.wit.json"), "w", encoding="utf-8") as file:
+        json.dump(entries, file)
 
 
 def main():
@@ -72,26 +108,26 @@ def main():
             input=REFUSING.encode(),
             check=True,
         )
-        for name, text in SOURCES.items():
-            with open(os.path.join(folder, name), "w") as file:
-                file.write(text)
+        write_files(folder)
+        counted = os.path.join(folder, "count")
 
-        def run(words, place):
-            settings = dict(os.environ, LD_PRELOAD=library, REFUSE_AT=str(place))
+        def run(words, **settings):
+            settings = dict(os.environ, LD_PRELOAD=library, **settings)
             done = subprocess.run([program, *words], cwd=folder, env=settings, capture_output=True)
             return done.returncode, done.stdout, done.stderr
 
         for words in COMMANDS:
-            usual, place, alike, refused = run(words, 0), 1, 0, 0
-            while alike < 40:
-                answer = run(words, place)
-                alike = alike + 1 if answer == usual else 0
+            usual = run(words, COUNT_TO=counted)
+            with open(counted, "rb") as file:
+                count = int.from_bytes(file.read(), "little")
+            refused = 0
+            for place in range(1, count + 1):
+                answer = run(words, REFUSE_AT=str(place))
                 refused += answer == NO_MEMORY
                 if answer not in (usual, NO_MEMORY):
                     wrong += 1
                     print("WRONG", words, place, answer)
-                place += 1
-            print(" ".join(words), "status", usual[0], "no memory", refused)
+            print("%s: status %d, %d allocations, no memory at %d" % (" ".join(words), usual[0], count, refused))
     print("wrong", wrong)
     return 1 if wrong else 0
 

@@ -1,13 +1,13 @@
 #!/usr/bin/env python3
 """Time of `infer` on lists of 8,192 to 65,536 nodes of four shapes; outside the gate.
 
-usage: bench/typings.py   (in any folder; it proves and builds a small program over a copy of the crates first)
+usage: bench/typings.py   (in any folder; it proves and builds a small program over a copy of the crates first, with
+the work that was kept of them)
 
 The shapes are a chain of comps, of takes, of pairs and of cases. For each shape and count the milliseconds of the
-fastest of fifteen runs, five in each of three processes, are printed. The C library is told to keep the memory that is
-let go, so that a run isn't charged for pages that the system takes back and hands out again. Twice the nodes, from
-32,768 to 65,536, may take at most 2.5 times the time: the exit status is 1 where a shape takes more. On a busy machine
-the figures say little.
+fastest of fifteen runs are printed, each in a process of its own, so that no run is charged for, or saved, pages that
+another one has used. Twice the nodes, from 32,768 to 65,536, may take at most 2.5 times the time: the exit status is 1
+where a shape takes more. On a busy machine the figures say little.
 """
 import os
 import shutil
@@ -28,38 +28,43 @@ LINES = {
     "typing_bench": "simplicity jets core_data word_math type_table term_core infer_cells",
 }
 SHAPES = ["comps", "takes", "pairs", "cases"]
-MAIN = r"""//! How long the least typing of long lists takes.
+COUNTS = [8192, 16384, 32768, 65536]
+RUNS = 15
+MAIN = r"""//! How long the least typing of a long list takes.
 #![tactic(auto)]
 
 mod lists;
 
 use infer_cells::infer;
+use std::env;
 use std::io;
 use std::time::Instant;
 use term_core::NodeList;
 use type_table::TypeTable;
 
+/// Two words: which shape, and of how many nodes.
 fn main(rt: HostRuntime) -> io::Result<()> {
-    for _round in 0..5u8 {
-        for count in [8192usize, 16384, 32768, 65536] {
-            for shape in 0..4u8 {
-                let Ok(nodes) = lists::list(rt.alloc(), shape, count) else {
-                    return Ok(());
-                };
-                let mut types = TypeTable::new(rt.alloc());
-                let Ok(unit) = types.unit() else {
-                    return Ok(());
-                };
-                let begun = Instant::now(&rt)?;
-                let answered = match infer(rt.alloc(), &nodes, unit, unit, &mut types) {
-                    Ok(typing) => typing.len(),
-                    Err(_) => 0,
-                };
-                let time = begun.elapsed(&rt)?.as_micros();
-                println!(rt; "{shape} {count} {answered} {time}")?;
-            }
-        }
-    }
+    let mut words = env::args(&rt)?.skip(1);
+    let Some(Ok(shape)) = words.next().map(|word| word.parse::<u8>()) else {
+        return Ok(());
+    };
+    let Some(Ok(count)) = words.next().map(|word| word.parse::<usize>()) else {
+        return Ok(());
+    };
+    let Ok(nodes) = lists::list(rt.alloc(), shape, count) else {
+        return Ok(());
+    };
+    let mut types = TypeTable::new(rt.alloc());
+    let Ok(unit) = types.unit() else {
+        return Ok(());
+    };
+    let begun = Instant::now(&rt)?;
+    let answered = match infer(rt.alloc(), &nodes, unit, unit, &mut types) {
+        Ok(typing) => typing.len(),
+        Err(_) => 0,
+    };
+    let time = begun.elapsed(&rt)?.as_micros();
+    println!(rt; "{answered} {time}")?;
     Ok(())
 }
 """
@@ -161,7 +166,7 @@ def write(path, text):
 def make(folder):
     for name in LINES:
         if name != "typing_bench":
-            shutil.copytree(os.path.join(CRATES, name), os.path.join(folder, "crates", name), ignore=shutil.ignore_patterns("out"))
+            shutil.copytree(os.path.join(CRATES, name), os.path.join(folder, "crates", name))
     bench = os.path.join(folder, "crates", "typing_bench")
     write(os.path.join(folder, "crates.txt"), "".join("%s: %s\n" % line for line in LINES.items()))
     write(os.path.join(bench, "src", "main.rt"), MAIN)
@@ -174,31 +179,25 @@ def make(folder):
     return bench
 
 
-# malloc's own settings: nothing is given back to the system, and no block is mapped for itself.
-KEPT = {"MALLOC_TRIM_THRESHOLD_": "4000000000", "MALLOC_MMAP_THRESHOLD_": "4000000000", "MALLOC_TOP_PAD_": "500000000"}
-
-
 def main():
+    times = {}
     with tempfile.TemporaryDirectory() as folder:
         bench = make(folder)
-        answer = subprocess.run(["rt", "run"], cwd=bench, capture_output=True, text=True)
+        built = subprocess.run(["rt", "run"], cwd=bench, capture_output=True, text=True)
         program = os.path.join(bench, "out", "typing_bench")
-        lines = []
-        if os.path.exists(program):
-            for _process in range(3):
-                run = subprocess.run([program], capture_output=True, text=True, env={**os.environ, **KEPT})
-                lines += run.stdout.splitlines()
-    times = {}
-    for line in lines:
-        words = line.split()
-        if len(words) == 4 and all(word.isdigit() for word in words):
-            run = int(words[0]), int(words[1])
-            times[run] = min(times.get(run, 1e9), int(words[3]) / 1000)
-    if len(times) != 16:
-        sys.exit(answer.stdout[-2000:] + answer.stderr[-2000:])
+        if not os.path.exists(program):
+            sys.exit(built.stdout[-2000:] + built.stderr[-2000:])
+        for _run in range(RUNS):
+            for shape in range(len(SHAPES)):
+                for count in COUNTS:
+                    run = subprocess.run([program, str(shape), str(count)], capture_output=True, text=True)
+                    answered, time = run.stdout.split()
+                    if int(answered) < count:
+                        sys.exit("no typing of %d %s" % (count, SHAPES[shape]))
+                    times[shape, count] = min(times.get((shape, count), 1e9), int(time) / 1000)
     late = False
     for shape, name in enumerate(SHAPES):
-        row = [times[shape, count] for count in (8192, 16384, 32768, 65536)]
+        row = [times[shape, count] for count in COUNTS]
         slow = row[3] > 2.5 * row[2]
         late = late or slow
         print("%s: %s ms%s" % (name, ", ".join("%.1f" % time for time in row), ", more than 2.5 times" if slow else ""))
