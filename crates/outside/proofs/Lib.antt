@@ -1,2 +1,3 @@
 mod HeldFiles
 mod KeptPlans
+mod Written

@@ -2,6 +2,7 @@
 ghost use Rattle.std.specs.Prelude.{◌≡◌, ◌≤◌, [], None, IsOk, OnOk, OnErr};
 ghost use Rattle.std.specs.Io.KnownBytes.{Appends};
 ghost use Rattle.outside.specs.Counts.{HasRisen};
+ghost use Rattle.outside.specs.Streams.{AppendsFront};
 
 use crate::{Sink, SinkFailed};
 use std::io::Write;
@@ -33,8 +34,11 @@ impl StdSink<Stderr> {
 }
 
 impl<W: Write> StdSink<W> {
+    ghost use Rattle.outside.specs.StdSink.{stream_of};
+
     pub fn new(stream: W) -> Self
-        ensures { ⟦<StdSink<W> as Sink>⟧.faults result ≡ 0 }
+        ensures faults { ⟦<StdSink<W> as Sink>⟧.faults result ≡ 0 }
+        ensures stream { stream_of result ≡ stream }
     {
         StdSink { stream, faults: 0 }
     }
@@ -42,7 +46,8 @@ impl<W: Write> StdSink<W> {
 
 // Writes the whole piece, in as many parts as the stream takes it. A part of no bytes is a failure.
 fn write_whole<W: Write>(stream: &mut W, piece: &[u8]) -> Result<(), SinkFailed>
-    ensures { OnOk result (Appends (W.contents stream.old) (W.contents stream.new) piece.now) }
+    ensures ok { OnOk result (Appends (W.contents stream.old) (W.contents stream.new) piece.now) }
+    ensures err { OnErr result (AppendsFront (W.contents stream.old) (W.contents stream.new) piece.now) }
 {
     let mut rest = piece;
     'parts: while !rest.is_empty() {
@@ -64,9 +69,11 @@ impl<W: Write> Sink for StdSink<W> {
 
     ghost faults = { fault_count };
 
-    /// A piece that is taken is written whole to the stream.
+    /// A piece that is taken is written whole to the stream, of one that isn't some first bytes.
     fn put(&mut self, piece: &[u8]) -> Result<(), SinkFailed>
         ensures written { OnOk result (Appends (W.contents (stream_of self.old)) (W.contents (stream_of self.new)) piece.now) }
+        ensures part { OnErr result (AppendsFront (W.contents (stream_of self.old)) (W.contents (stream_of self.new)) piece.now) }
+        ensures nothing { piece.now ≡ [] → stream_of self.new ≡ stream_of self.old }
         ensures failed { OnErr result (HasRisen (fault_count self.old) (fault_count self.new)) }
         ensures no_fault { OnOk result (fault_count self.new ≡ fault_count self.old) }
         ensures never_fall { fault_count self.old ≤ fault_count self.new }
@@ -88,6 +95,7 @@ mod tests {
     use super::*;
     use std::fs;
     use std::fs::File;
+    use std::io::BufWriter;
     use std::test::Fail;
 
     const PATH: &str = "outside-std-sink-test";
@@ -104,6 +112,9 @@ mod tests {
         assert_eq!(rt; closed.put(b"three"), Err(SinkFailed));
         assert_eq!(rt; closed.put(b""), Ok(()));
         assert_eq!(rt; (sink.faults, closed.faults), (0, 1));
+        let mut buffered = StdSink::new(BufWriter::new(rt.alloc(), File::create(&rt, PATH)?)?);
+        assert_eq!(rt; buffered.put(b"four"), Ok(()));
+        assert_eq!(rt; fs::read(&rt, PATH)?.as_slice(), b"four".as_slice());
         fs::remove_file(&rt, PATH)?;
 
         assert_eq!(rt; StdSink::output(&rt).put(b"out\n"), Ok(()));

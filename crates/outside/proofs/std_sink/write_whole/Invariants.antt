@@ -1,9 +1,9 @@
 use Rattle.std.proofs.Common.{length}
-use Rattle.outside.specs.Streams.{WritesOn}
+use Rattle.outside.specs.Streams.{Went}
 use Rattle.outside.proofs.std_sink.write_whole.Given as goal
 
 abbrev pub invariant-parts : goal.invariant-parts
-invariant-parts g l = WritesOn (g.W.Write.contents l.fn.stream) l.fn.piece (g.W.Write.contents l.stream) l.rest
+invariant-parts g l = Went (g.W.Write.contents l.fn.stream) (g.W.Write.contents l.stream) l.fn.piece l.rest
 
 abbrev pub decreases-parts : goal.decreases-parts
 decreases-parts g l = length l.rest
