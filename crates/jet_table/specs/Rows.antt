@@ -1,5 +1,6 @@
 -- What the code's rows stand for.
-use Rattle.std.specs.Prelude.{◌≡◌, IsTrue, ℕ, List, [], ◌∷◌, map, take, Option, Some, None}
+use Rattle.std.specs.Prelude.{◌≡◌, IsTrue, ℕ, Bool, true, not, ◌&&◌, List, [], ◌∷◌, map, take, Option, Some, None, is_some}
+use Rattle.std.specs.List.{list_all, list_any}
 use Rattle.jets.specs.Jet.{Kind, Truth, Number, Row, is_jet, row_at}
 use Rattle.word_math.specs.Op.{jet_of}
 use Rattle.jet_table.specs.declared.row.JetKind.{JetKind}
@@ -32,6 +33,22 @@ rows_of = map row_of
 -- the rows before a place
 abbrev pub placed : List JetRow → ℕ → List Row
 placed rows at = rows_of (take at rows)
+
+-- what is there comes first
+abbrev pub come_first : {A : Type 0} → List (Option A) → Bool
+come_first [] = true
+come_first (None ∷ xs) = not (list_any is_some xs)
+come_first (Some x ∷ xs) = come_first xs
+
+-- of the arguments and of the results of a row, and of those of the rows before a place
+abbrev pub is_packed : JetRow → Bool
+is_packed r = come_first r.arguments && come_first r.results
+
+abbrev pub are_packed : List JetRow → Bool
+are_packed = list_all is_packed
+
+abbrev pub packed_before : List JetRow → ℕ → Bool
+packed_before rows at = are_packed (take at rows)
 
 -- the row of a jet that there is, with its name and types
 pub record IsRow (r : Row) : Type 0 where

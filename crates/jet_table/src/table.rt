@@ -5,7 +5,7 @@ ghost use Rattle.std.specs.Str.{bytes_eq};
 ghost use Rattle.std.specs.List.{flat_map};
 ghost use Rattle.jets.specs.Jet as jet;
 ghost use Rattle.jets.specs.Jet.{family, row_name};
-ghost use Rattle.jet_table.specs.Rows.{placed, row_of, IsRow};
+ghost use Rattle.jet_table.specs.Rows.{is_packed, packed_before, placed, row_of, IsRow};
 ghost use Rattle.jet_table.specs.Names.{is_rising};
 
 use crate::families;
@@ -23,15 +23,15 @@ pub struct JetTable<const N: usize> {
 }
 
 impl<const N: usize> Model for JetTable<N> {
-    ghost use Rattle.std.specs.Prelude.{◌≡◌, List, length};
+    ghost use Rattle.std.specs.Prelude.{◌≡◌, IsTrue, List, length};
     ghost use Rattle.jets.specs.Jet.{Row};
-    ghost use Rattle.jet_table.specs.Rows.{rows_of};
+    ghost use Rattle.jet_table.specs.Rows.{are_packed, rows_of};
 
     ghost Value = { List Row };
 
     ghost view = { λ t. rows_of t.rows };
 
-    ghost invariant = { λ t. length t.rows ≡ N };
+    ghost invariant = { λ t. (length t.rows ≡ N) × IsTrue (are_packed t.rows) };
 }
 
 impl JetTable<JETS> {
@@ -49,6 +49,7 @@ impl JetTable<JETS> {
         requires { place < JETS }
         ensures there { slice_get self.now place ≡ Some (row_of result.now) }
         ensures jet { self.now ≡ jet.rows → IsRow (row_of result.now) }
+        ensures packed { IsTrue (is_packed result.now) }
     {
         &self.rows[place]
     }
@@ -91,6 +92,7 @@ fn first(rows: &mut [JetRow], at: usize) -> usize
     requires { at + 31 ≤ length rows.old }
     ensures place { result ≡ at + 31 }
     ensures written { placed rows.new result ≡ placed rows.old at ++ flat_map family (jet.Add ∷ jet.All ∷ jet.And ∷ jet.Ch ∷ jet.Complement ∷ jet.Decrement ∷ jet.DivMod ∷ []) }
+    ensures packed { packed_before rows.new result ≡ packed_before rows.old at }
 {
     let at = families::add(rows, at);
     let at = families::all(rows, at);
@@ -106,6 +108,7 @@ fn second(rows: &mut [JetRow], at: usize) -> usize
     requires { at + 30 ≤ length rows.old }
     ensures place { result ≡ at + 30 }
     ensures written { placed rows.new result ≡ placed rows.old at ++ flat_map family (jet.Divide ∷ jet.Divides ∷ jet.Eq ∷ jet.FullAdd ∷ jet.FullDecrement ∷ jet.FullIncrement ∷ jet.FullMultiply ∷ []) }
+    ensures packed { packed_before rows.new result ≡ packed_before rows.old at }
 {
     let at = families::divide(rows, at);
     let at = families::divides(rows, at);
@@ -121,6 +124,7 @@ fn third(rows: &mut [JetRow], at: usize) -> usize
     requires { at + 35 ≤ length rows.old }
     ensures place { result ≡ at + 35 }
     ensures written { placed rows.new result ≡ placed rows.old at ++ flat_map family (jet.FullSubtract ∷ jet.High ∷ jet.Increment ∷ jet.IsOne ∷ jet.IsZero ∷ jet.Le ∷ jet.LeftExtend ∷ []) }
+    ensures packed { packed_before rows.new result ≡ packed_before rows.old at }
 {
     let at = families::full_subtract(rows, at);
     let at = families::high(rows, at);
@@ -136,6 +140,7 @@ fn fourth(rows: &mut [JetRow], at: usize) -> usize
     requires { at + 55 ≤ length rows.old }
     ensures place { result ≡ at + 55 }
     ensures written { placed rows.new result ≡ placed rows.old at ++ flat_map family (jet.LeftPadHigh ∷ jet.LeftPadLow ∷ jet.LeftRotate ∷ jet.LeftShift ∷ jet.LeftShiftWith ∷ jet.Leftmost ∷ jet.Low ∷ []) }
+    ensures packed { packed_before rows.new result ≡ packed_before rows.old at }
 {
     let at = families::left_pad_high(rows, at);
     let at = families::left_pad_low(rows, at);
@@ -151,6 +156,7 @@ fn fifth(rows: &mut [JetRow], at: usize) -> usize
     requires { at + 29 ≤ length rows.old }
     ensures place { result ≡ at + 29 }
     ensures written { placed rows.new result ≡ placed rows.old at ++ flat_map family (jet.Lt ∷ jet.Maj ∷ jet.Max ∷ jet.Median ∷ jet.Min ∷ jet.Modulo ∷ jet.Multiply ∷ []) }
+    ensures packed { packed_before rows.new result ≡ packed_before rows.old at }
 {
     let at = families::lt(rows, at);
     let at = families::maj(rows, at);
@@ -166,6 +172,7 @@ fn sixth(rows: &mut [JetRow], at: usize) -> usize
     requires { at + 47 ≤ length rows.old }
     ensures place { result ≡ at + 47 }
     ensures written { placed rows.new result ≡ placed rows.old at ++ flat_map family (jet.Negate ∷ jet.Or ∷ jet.RightExtend ∷ jet.RightPadHigh ∷ jet.RightPadLow ∷ jet.RightRotate ∷ jet.RightShift ∷ []) }
+    ensures packed { packed_before rows.new result ≡ packed_before rows.old at }
 {
     let at = families::negate(rows, at);
     let at = families::or(rows, at);
@@ -181,6 +188,7 @@ fn seventh(rows: &mut [JetRow], at: usize) -> usize
     requires { at + 42 ≤ length rows.old }
     ensures place { result ≡ at + 42 }
     ensures written { placed rows.new result ≡ placed rows.old at ++ flat_map family (jet.RightShiftWith ∷ jet.Rightmost ∷ jet.Some ∷ jet.Subtract ∷ jet.Verify ∷ jet.Xor ∷ jet.XorXor ∷ []) }
+    ensures packed { packed_before rows.new result ≡ packed_before rows.old at }
 {
     let at = families::right_shift_with(rows, at);
     let at = families::rightmost(rows, at);

@@ -14,4 +14,4 @@ returns-clause-absent c =
     c.self.view_is (absent c.args.name.now c.self.inside.rows c.place_of.result c.place_of.ensures)
 
 pub returns-clause-within : goal.returns-clause-within
-returns-clause-within c = found_within c.args.name.now c.self.inside.rows _ c.place_of.result c.self.invariant c.place_of.ensures
+returns-clause-within c = found_within c.args.name.now c.self.inside.rows _ c.place_of.result c.self.invariant.0 c.place_of.ensures
