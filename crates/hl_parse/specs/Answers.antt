@@ -3,8 +3,8 @@ use Rattle.std.specs.Prelude.{◌≡◌, ℕ, List, Result, Ok, Err}
 use Rattle.hl_syntax.specs.declared.token.Token.{Token}
 use Rattle.hl_parse.specs.declared.parser.ParseRefusal.{ParseRefusal}
 use Rattle.hl_parse.specs.declared.parser.ParseRefusal.TheVariants.{Syntax, TooDeep, OutOfMemory}
-use Rattle.hl_parse.specs.declared.refused.Refused.{Refused}
-use Rattle.hl_parse.specs.declared.refused.Refused.TheVariants as refused
+use Rattle.hl_cursor.specs.declared.refused.Refused.{Refused}
+use Rattle.hl_cursor.specs.declared.refused.Refused.TheVariants as refused
 use Rattle.simplicityhl.specs.Viable.{place}
 use Rattle.hl_grammar.specs.Readers.{Outcome, got, dead, too_deep}
 

@@ -4,13 +4,11 @@ ghost use Rattle.std.specs.Prelude.{◌≡◌, codes};
 ghost use Rattle.hl_grammar.specs.Readers.{choose};
 ghost use Rattle.hl_grammar.specs.Read.{is_at_word};
 ghost use Rattle.hl_grammar.specs.Read as read;
-ghost use Rattle.hl_parse.specs.Gives.{Gives, Reads, listed_of};
+ghost use Rattle.hl_cursor.specs.Gives.{Gives, Reads, listed_of};
 
-use crate::cursor::Cursor;
-use crate::expr::{Inner, expr};
-use crate::listed::Listed;
-use crate::refused::Refused;
-use crate::type_text::type_text;
+use hl_bindings::type_text;
+use hl_cursor::{Cursor, Listed, Refused};
+use hl_exprs::body;
 use hl_syntax::{Expr, Item, Param, Params, Program, Symbol, TypeText};
 use std::alloc::Global;
 
@@ -28,7 +26,7 @@ fn param(alloc: Global, cursor: &mut Cursor<'_>, depth: u8) -> Result<Param, Ref
 }
 
 /// Parameters, and the parenthesis after them.
-#[tactic(auto, using(crate::proofs::Turns::turn, crate::proofs::Turns::over))]
+#[tactic(auto, using(hl_cursor::proofs::Turns::turn, hl_cursor::proofs::Turns::over))]
 fn params(alloc: Global, cursor: &mut Cursor<'_>, depth: u8) -> Result<Listed<Param>, Refused>
     ensures { Gives listed_of (read.many Symbol.CloseParenthesis (read.param depth) cursor.old) result cursor.new }
 {
@@ -65,29 +63,6 @@ fn alias(alloc: Global, cursor: &mut Cursor<'_>, depth: u8) -> Result<Item, Refu
     cursor.expect(Symbol::Semicolon)?;
     let span = cursor.since(first);
     Ok(Item::Alias { name, kind, span })
-}
-
-/// A function's body, which counts as an expression.
-#[tactic(auto, using(crate::proofs::Depth::body_too_deep, crate::proofs::Depth::body_dead, crate::proofs::Depth::body_deeper))]
-fn body(alloc: Global, cursor: &mut Cursor<'_>, depth: u8) -> Result<Expr, Refused>
-    ensures { Reads (read.body depth cursor.old) result cursor.new }
-{
-    if depth == 0 {
-        if cursor.is_at(Symbol::OpenBrace) {
-            return Err(Refused::TooDeep);
-        }
-        return Err(Refused::Syntax);
-    }
-    let first = cursor.tokens();
-    let form = Inner {
-        alloc,
-        depth: depth - 1,
-        values_only: false,
-        expr,
-    }
-    .block(cursor)?;
-    let span = cursor.since(first);
-    Ok(Expr { form, span })
 }
 
 /// `-> type body`, or a body alone.
@@ -141,7 +116,7 @@ fn item(alloc: Global, cursor: &mut Cursor<'_>, depth: u8) -> Result<Item, Refus
 }
 
 /// A program, up to the last token.
-#[tactic(auto, using(crate::proofs::Turns::turn, crate::proofs::Turns::over), unfolding(hl_grammar::specs::Read::program))]
+#[tactic(auto, using(hl_cursor::proofs::Turns::turn, hl_cursor::proofs::Turns::over), unfolding(hl_grammar::specs::Read::program))]
 pub(crate) fn program(alloc: Global, cursor: &mut Cursor<'_>, depth: u8) -> Result<Program, Refused>
     ensures { Reads (read.program depth cursor.old) result cursor.new }
 {

@@ -1,0 +1,3 @@
+mod Alone
+pub mod Passed
+pub mod Turns

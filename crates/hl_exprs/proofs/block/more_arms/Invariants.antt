@@ -1,0 +1,9 @@
+use Rattle.std.proofs.Common.{◌≡◌, suc, ◌-◌, length}
+use Rattle.hl_grammar.specs.Readers.{turns}
+use Rattle.hl_grammar.specs.Read as read
+use Rattle.hl_operands.specs.Exprs.{within, more_arms}
+use Rattle.hl_exprs.proofs.block.more_arms.Given as goal
+
+abbrev pub invariant-loop-turn : goal.invariant-loop-turn
+invariant-loop-turn g l =
+    within more_arms l.inner.values_only l.inner.depth l.fn.cursor ≡ turns (within read.arms_turn l.inner.values_only l.inner.depth) (suc (length l.fn.cursor) - l._turn) l.found l.cursor

@@ -1,9 +1,0 @@
-use Rattle.std.proofs.Common.{◌≡◌, suc, ◌-◌, length}
-use Rattle.hl_grammar.specs.Readers.{turns}
-use Rattle.hl_grammar.specs.Read as read
-use Rattle.hl_parse.proofs.pattern.Inner.list.Given as goal
-
-abbrev pub invariant-loop-turn : goal.invariant-loop-turn
-invariant-loop-turn g l =
-    let x = read.pattern l.self.depth in
-    read.many l.close x l.fn.cursor ≡ turns (read.many_turn l.close x) (suc (length l.fn.cursor) - l._turn) l.items l.cursor
