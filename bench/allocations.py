@@ -5,7 +5,7 @@
 
 Each command is run once as it is, which counts its allocations, and then once for each of them with that one refused.
 A run with a refused allocation has to answer as the first run, or with status 6, nothing on standard output and the
-line `no memory`. A C compiler named `cc` makes the library that counts and refuses.
+line `no memory`, which isn't written where there is no memory for the words themselves. A C compiler named `cc` makes the library that counts and refuses.
 """
 
 import json
@@ -82,7 +82,7 @@ COMMANDS = [
     ["other", "words"],
 ]
 
-NO_MEMORY = (6, b"", b"no memory\n")
+NO_MEMORY = [(6, b"", b"no memory\n"), (6, b"", b"")]
 
 
 def write_files(folder):
@@ -123,8 +123,8 @@ def main():
             refused = 0
             for place in range(1, count + 1):
                 answer = run(words, REFUSE_AT=str(place))
-                refused += answer == NO_MEMORY
-                if answer not in (usual, NO_MEMORY):
+                refused += answer in NO_MEMORY
+                if answer != usual and answer not in NO_MEMORY:
                     wrong += 1
                     print("WRONG", words, place, answer)
             print("%s: status %d, %d allocations, no memory at %d" % (" ".join(words), usual[0], count, refused))

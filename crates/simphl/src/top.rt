@@ -3,8 +3,6 @@
 ghost use Rattle.std.specs.Prelude.{◌≡◌, ◌≤◌};
 ghost use Rattle.simphl.specs.Answer.{IsAllowed, IsAnswer, HasRead};
 ghost use Rattle.simphl.specs.Answered.{IsPut, IsDelivered};
-ghost use Rattle.command_outcome.specs.Texts.{no_memory_line};
-ghost use Rattle.command_outcome.specs.declared.status.Status.TheVariants.{NoMemory};
 ghost use Rattle.command_words.specs.Words.{reading, texts};
 
 use crate::outcome::compose;
@@ -32,13 +30,6 @@ pub fn simphl<F: Files, O: Sink, E: Sink>(
         Err(Stop::Refused { status, line }) => refuse(err, status, line.as_bytes()),
         Err(Stop::OutOfMemory) => refuse(err, Status::NoMemory, b"no memory\n"),
     }
-}
-
-/// Answers a command for whose words there is no memory.
-pub fn refuse_words<E: Sink>(err: &mut E) -> Status
-    ensures { IsPut NoMemory (record { contents = E.contents err.old; faults = E.faults err.old }) (record { contents = E.contents err.new; faults = E.faults err.new }) no_memory_line result }
-{
-    refuse(err, Status::NoMemory, b"no memory\n")
 }
 
 /// Puts a text on `out`.
