@@ -22,6 +22,14 @@ pub record IsDone (text : List ℕ) (status : Status) (out err : List ℕ) : Typ
   pub text_is : out ≡ text
   pub nothing : err ≡ []
 
+-- there is one status and one text on `err`, and one such part of the text on `out`
+abbrev pub IsOneIn : (List ℕ → List ℕ) → Answer → Type 0
+IsOneIn part A = (s t : Status) (o p e f : List ℕ) → A s o e → A t p f → (s ≡ t) × ((part o ≡ part p) × (e ≡ f))
+
+-- there is one status, one text on `out` and one text on `err`
+abbrev pub IsOneWhole : Answer → Type 0
+IsOneWhole A = IsOneIn (λ out. out) A
+
 -- there is one status and one text on `err`
 abbrev pub IsOne : Answer → Type 0
 IsOne A = (s t : Status) (o p e f : List ℕ) → A s o e → A t p f → (s ≡ t) × (e ≡ f)

@@ -25,7 +25,7 @@ use Rattle.simplicityhl.specs.Grammar.{Stands, most_depth}
 use Rattle.simplicityhl.specs.Tokens.{Lexed}
 use Rattle.simplicityhl.specs.Written.{Broken, breaks_rule, breaks_limit}
 use Rattle.command_outcome.specs.declared.status.Status.{Status}
-use Rattle.command_outcome.specs.Answer.{Answer, IsOne, AreSettled}
+use Rattle.command_outcome.specs.Answer.{Answer, IsOneWhole, AreSettled}
 use Rattle.command_outcome.proofs.OneSource.{one_source, one_refusal, one_done, settled_refusal, settled_done, settled_source}
 use Rattle.eval_command.specs.Evaluation.{Given, AfterArgs, AfterMeaning, AfterRules, AfterWitnesses, IsArgs, IsArgument, IsArgumentOf, IsWitnesses, FromArgs, FromRules, FromWitnesses, FromArgument, IsEvaluation, object_of, wanted, missing, no_value, empty, value_text}
 use Rattle.eval_command.specs.Law.{EvaluationIsOne}
@@ -82,9 +82,13 @@ settled_from_args given end tree s o e a = settled_args (FromRules given end tre
 pub settled_evaluation : (given : Given) (text : List ℕ) → AreSettled (IsEvaluation given text)
 settled_evaluation given text s o e a = settled_source (FromArgs given (length text)) (settled_from_args given (length text)) text s o e a
 
-one_meaning : (answer : meanings.Answer HlValue) → IsOne (AfterMeaning answer)
-one_meaning (meanings.gives v) s t o p e f a b = one_done _ s t o p e f a b
-one_meaning meanings.fails s t o p e f a b = one_refusal _ _ s t o p e f a b
+-- all of a text
+abbrev whole : List ℕ → List ℕ
+whole = λ out. out
+
+one_meaning : (answer : meanings.Answer HlValue) → IsOneWhole (AfterMeaning answer)
+one_meaning (meanings.gives v) s t o p e f a b = one_done whole _ s t o p e f a b
+one_meaning meanings.fails s t o p e f a b = one_refusal whole _ _ s t o p e f a b
 one_meaning meanings.stuck s t o p e f a b = absurd a
 
 same_value : IsOneTree grammar.value → (text : List ℕ) (kind : HlType) (v w : HlValue) → IsValueText text kind v → IsValueText text kind w → v ≡ w
@@ -99,13 +103,13 @@ same_value one text kind v w a b =
 same_text : (input : Option (List ℕ)) (a b : List ℕ) → input ≡ Some a → input ≡ Some b → a ≡ b
 same_text input a b p q = let e : ◌≡◌ {A = Option (List ℕ)} (Some a) (Some b) = sym p ∙ q in cc
 
-one_argument : IsOneTree grammar.value → (Next : HlValue → Answer) → ((v : HlValue) → IsOne (Next v)) → (kind : HlType) (input : Option (List ℕ)) → IsOne (IsArgument kind input Next)
+one_argument : IsOneTree grammar.value → (Next : HlValue → Answer) → ((v : HlValue) → IsOneWhole (Next v)) → (kind : HlType) (input : Option (List ℕ)) → IsOneWhole (IsArgument kind input Next)
 one_argument one Next each kind input s t o p e f (empty none is a) (empty none' is' b) = each _ s t o p e f a b
 one_argument one Next each kind input s t o p e f (empty none is a) (missing none' other b) = absurd (other is)
 one_argument one Next each kind input s t o p e f (empty none is a) (value_text text v here is' b) = absurd (cc)
 one_argument one Next each kind input s t o p e f (empty none is a) (no_value text here is' b) = absurd (cc)
 one_argument one Next each kind input s t o p e f (missing none other a) (empty none' is b) = absurd (other is)
-one_argument one Next each kind input s t o p e f (missing none other a) (missing none' other' b) = one_refusal _ _ s t o p e f a b
+one_argument one Next each kind input s t o p e f (missing none other a) (missing none' other' b) = one_refusal whole _ _ s t o p e f a b
 one_argument one Next each kind input s t o p e f (missing none other a) (value_text text v here is b) = absurd (cc)
 one_argument one Next each kind input s t o p e f (missing none other a) (no_value text here is b) = absurd (cc)
 one_argument one Next each kind input s t o p e f (value_text text v here is a) (empty none is' b) = absurd (cc)
@@ -119,51 +123,51 @@ one_argument one Next each kind input s t o p e f (no_value text here is a) (emp
 one_argument one Next each kind input s t o p e f (no_value text here is a) (missing none other b) = absurd (cc)
 one_argument one Next each kind input s t o p e f (no_value text here is a) (value_text text' v here' is' b) =
     let moved : IsNoValueText text' kind = subst (λ x. IsNoValueText x kind) (same_text input text text' here here') is in absurd (moved.none v is')
-one_argument one Next each kind input s t o p e f (no_value text here is a) (no_value text' here' is' b) = one_refusal _ _ s t o p e f a b
+one_argument one Next each kind input s t o p e f (no_value text here is a) (no_value text' here' is' b) = one_refusal whole _ _ s t o p e f a b
 
-one_argument_of : IsOneTree grammar.value → (Next : HlValue → Answer) → ((v : HlValue) → IsOne (Next v)) → (function : Option TypedFunction) (input : Option (List ℕ)) → IsOne (IsArgumentOf function input Next)
+one_argument_of : IsOneTree grammar.value → (Next : HlValue → Answer) → ((v : HlValue) → IsOneWhole (Next v)) → (function : Option TypedFunction) (input : Option (List ℕ)) → IsOneWhole (IsArgumentOf function input Next)
 one_argument_of one Next each None input s t o p e f a b = absurd a
 one_argument_of one Next each (Some g) input s t o p e f a b = one_argument one Next each (argument_type g.params) input s t o p e f a b
 
-one_after_witnesses : (Next : List Entry → Answer) → ((es : List Entry) → IsOne (Next es)) → (found : Result (List Entry) WantedRefusal) → IsOne (AfterWitnesses Next found)
+one_after_witnesses : (Next : List Entry → Answer) → ((es : List Entry) → IsOneWhole (Next es)) → (found : Result (List Entry) WantedRefusal) → IsOneWhole (AfterWitnesses Next found)
 one_after_witnesses Next each (Ok es) s t o p e f a b = each es s t o p e f a b
-one_after_witnesses Next each (Err wanted_refusal.NotJson) s t o p e f a b = one_refusal _ _ s t o p e f a b
-one_after_witnesses Next each (Err (wanted_refusal.Missing name)) s t o p e f a b = one_refusal _ _ s t o p e f a b
-one_after_witnesses Next each (Err (wanted_refusal.BadEntry name)) s t o p e f a b = one_refusal _ _ s t o p e f a b
-one_after_witnesses Next each (Err (wanted_refusal.TypeDiffers name)) s t o p e f a b = one_refusal _ _ s t o p e f a b
-one_after_witnesses Next each (Err (wanted_refusal.BadValue name)) s t o p e f a b = one_refusal _ _ s t o p e f a b
+one_after_witnesses Next each (Err wanted_refusal.NotJson) s t o p e f a b = one_refusal whole _ _ s t o p e f a b
+one_after_witnesses Next each (Err (wanted_refusal.Missing name)) s t o p e f a b = one_refusal whole _ _ s t o p e f a b
+one_after_witnesses Next each (Err (wanted_refusal.BadEntry name)) s t o p e f a b = one_refusal whole _ _ s t o p e f a b
+one_after_witnesses Next each (Err (wanted_refusal.TypeDiffers name)) s t o p e f a b = one_refusal whole _ _ s t o p e f a b
+one_after_witnesses Next each (Err (wanted_refusal.BadValue name)) s t o p e f a b = one_refusal whole _ _ s t o p e f a b
 one_after_witnesses Next each (Err wanted_refusal.OutOfMemory) s t o p e f a b = absurd a
 
 witnesses_answered : (Next : List Entry → Answer) (found : Result (List Entry) WantedRefusal) (s : Status) (o e : List ℕ) → AfterWitnesses Next found s o e → found ≢ Err wanted_refusal.OutOfMemory
 witnesses_answered Next found s o e a is = let never : AfterWitnesses Next (Err wanted_refusal.OutOfMemory) s o e = subst (λ r. AfterWitnesses Next r s o e) is a in never
 
-one_witnesses : IsOneWantedReading → (file : List ℕ) (names : List TypedName) (Next : List Entry → Answer) → ((es : List Entry) → IsOne (Next es)) → IsOne (IsWitnesses file names Next)
+one_witnesses : IsOneWantedReading → (file : List ℕ) (names : List TypedName) (Next : List Entry → Answer) → ((es : List Entry) → IsOneWhole (Next es)) → IsOneWhole (IsWitnesses file names Next)
 one_witnesses law file names Next each s t o p e f a b =
     let same : b.found ≡ a.found = law file names b.found a.found b.read a.read (witnesses_answered Next b.found t p f b.answer) (witnesses_answered Next a.found s o e a.answer) in
     one_after_witnesses Next each a.found s t o p e f a.answer (subst (λ r. AfterWitnesses Next r t p f) same b.answer)
 
-one_rules : (Next : Checked → Answer) → ((p : Checked) → IsOne (Next p)) → (found : Result Checked Broken) → IsOne (AfterRules Next found)
+one_rules : (Next : Checked → Answer) → ((p : Checked) → IsOneWhole (Next p)) → (found : Result Checked Broken) → IsOneWhole (AfterRules Next found)
 one_rules Next each (Ok program) s t o p e f a b = each program s t o p e f a b
-one_rules Next each (Err (breaks_rule rule span)) s t o p e f a b = one_refusal _ _ s t o p e f a b
-one_rules Next each (Err (breaks_limit limit span)) s t o p e f a b = one_refusal _ _ s t o p e f a b
+one_rules Next each (Err (breaks_rule rule span)) s t o p e f a b = one_refusal whole _ _ s t o p e f a b
+one_rules Next each (Err (breaks_limit limit span)) s t o p e f a b = one_refusal whole _ _ s t o p e f a b
 
-one_after_args : (Next : List Entry → Answer) → ((es : List Entry) → IsOne (Next es)) → (found : Result (List Entry) TextRefusal) → IsOne (AfterArgs Next found)
+one_after_args : (Next : List Entry → Answer) → ((es : List Entry) → IsOneWhole (Next es)) → (found : Result (List Entry) TextRefusal) → IsOneWhole (AfterArgs Next found)
 one_after_args Next each (Ok es) s t o p e f a b = each es s t o p e f a b
-one_after_args Next each (Err text_refusal.NotJson) s t o p e f a b = one_refusal _ _ s t o p e f a b
-one_after_args Next each (Err (text_refusal.BadEntry name)) s t o p e f a b = one_refusal _ _ s t o p e f a b
-one_after_args Next each (Err (text_refusal.BadValue name)) s t o p e f a b = one_refusal _ _ s t o p e f a b
+one_after_args Next each (Err text_refusal.NotJson) s t o p e f a b = one_refusal whole _ _ s t o p e f a b
+one_after_args Next each (Err (text_refusal.BadEntry name)) s t o p e f a b = one_refusal whole _ _ s t o p e f a b
+one_after_args Next each (Err (text_refusal.BadValue name)) s t o p e f a b = one_refusal whole _ _ s t o p e f a b
 one_after_args Next each (Err text_refusal.OutOfMemory) s t o p e f a b = absurd a
 
 args_answered : (Next : List Entry → Answer) (found : Result (List Entry) TextRefusal) (s : Status) (o e : List ℕ) → AfterArgs Next found s o e → found ≢ Err text_refusal.OutOfMemory
 args_answered Next found s o e a is = let never : AfterArgs Next (Err text_refusal.OutOfMemory) s o e = subst (λ r. AfterArgs Next r s o e) is a in never
 
-one_args : IsOneReading → (file : List ℕ) (names : List (List ℕ)) (Next : List Entry → Answer) → ((es : List Entry) → IsOne (Next es)) → IsOne (IsArgs file names Next)
+one_args : IsOneReading → (file : List ℕ) (names : List (List ℕ)) (Next : List Entry → Answer) → ((es : List Entry) → IsOneWhole (Next es)) → IsOneWhole (IsArgs file names Next)
 one_args law file names Next each s t o p e f a b =
     let same : b.found ≡ a.found = law file names b.found a.found b.read a.read (args_answered Next b.found t p f b.answer) (args_answered Next a.found s o e a.answer) in
     one_after_args Next each a.found s t o p e f a.answer (subst (λ r. AfterArgs Next r t p f) same b.answer)
 
 pub one_evaluation : IsOneTree grammar.program → HasFronts grammar.program → IsOneTree grammar.value → IsOneReading → IsOneWantedReading → EvaluationIsOne
 one_evaluation tree law value reading wanted_reading given text s t o p e f a b =
-    one_source law tree (FromArgs given (length text)) (λ program. one_args reading (object_of given.args) (param_names program) (FromRules given (length text) program) (λ params. one_rules (FromWitnesses given) (λ typed. one_witnesses wanted_reading (object_of given.witness) (wanted given.function typed) (FromArgument given typed) (λ witness.
+    one_source whole law tree (FromArgs given (length text)) (λ program. one_args reading (object_of given.args) (param_names program) (FromRules given (length text) program) (λ params. one_rules (FromWitnesses given) (λ typed. one_witnesses wanted_reading (object_of given.witness) (wanted given.function typed) (FromArgument given typed) (λ witness.
     one_argument_of value (λ argument. AfterMeaning (meaning typed.functions given.function (bindings_of witness) argument)) (λ argument. one_meaning (meaning typed.functions given.function (bindings_of witness) argument)) (function_of typed.functions given.function) given.input))
     (checked program given.function params (length text)))) text s t o p e f a b

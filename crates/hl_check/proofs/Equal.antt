@@ -1,10 +1,10 @@
 -- Types that are the same, part by part.
-use Rattle.std.proofs.Common.{◌≡◌, ◌≢◌, ℕ, zero, suc, ◌+◌, ◌<◌, ◌≤◌, Bool, true, false, ◌&&◌, List, [], ◌∷◌, length, map, drop, get_or, refl, sym, ap, ◌∙◌, arith, Some}
+use Rattle.std.proofs.Common.{◌≡◌, ◌≢◌, ℕ, suc, ◌+◌, ◌<◌, ◌≤◌, Bool, true, false, ◌&&◌, List, [], ◌∷◌, length, map, drop, get_or, refl, sym, ap, ◌∙◌, arith, Some}
 use Rattle.std.specs.List.{slice_get}
 use Rattle.hl_syntax.specs.declared.kinds.HlType.{HlType}
 use Rattle.hl_syntax.specs.declared.kinds.HlType.TheOpen.{HlType-F}
 use Rattle.hl_syntax.specs.declared.kinds.HlType.TheViews.{out-HlType}
-use Rattle.hl_syntax.specs.declared.kinds.HlType.TheFolds.{fold-HlType, fold-roll-HlType}
+use Rattle.hl_syntax.specs.declared.kinds.HlType.TheFolds.{fold-roll-HlType}
 use Rattle.hl_syntax.specs.declared.kinds.HlType.TheVariants as kind
 use Rattle.hl_check.proofs.Drops.{drop_item, drop_got, drop_past}
 use Rattle.hl_rules.specs.Same.{all_same, same_shape, same_type}

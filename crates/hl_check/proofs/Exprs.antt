@@ -1,5 +1,5 @@
 -- Parts of expressions one after the other.
-use Rattle.std.proofs.Common.{◌≡◌, ℕ, ◌+◌, ◌<◌, ◌≤◌, List, [], ◌∷◌, ◌++◌, length, map, drop, get_or, refl, sym, ap, ◌∙◌, arith, Result, Ok, Err, append_assoc, append-nil, Some}
+use Rattle.std.proofs.Common.{◌≡◌, ℕ, ◌+◌, ◌<◌, ◌≤◌, List, [], ◌∷◌, ◌++◌, length, map, drop, get_or, refl, sym, ap, ◌∙◌, Result, Ok, Err, append_assoc, append-nil, Some}
 use Rattle.std.specs.List.{slice_get}
 use Rattle.hl_syntax.specs.declared.kinds.HlType.{HlType}
 use Rattle.hl_syntax.specs.declared.kinds.TypedName.{TypedName}

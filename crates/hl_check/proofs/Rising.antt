@@ -13,11 +13,11 @@ use Rattle.jets.specs.Jet as jets
 use Rattle.jet_table.specs.Names.{is_rising}
 use Rattle.hl_rules.specs.Exprs.{jet_named, jet_type}
 use Rattle.hl_check.specs.Contexts.{AreJets, AreSoundTypes}
-use Rattle.hl_types.proofs.Parts.{is_sound, sound-UInt}
+use Rattle.hl_types.proofs.Parts.{sound-UInt}
 use Rattle.hl_check.proofs.Sounds.{sound_bool}
 use Rattle.simplicityhl.specs.Kinds.{IsSound, is_width}
-use Rattle.std.proofs.Common.{get_or, option_map}
-use Rattle.std.specs.List.{All, list_all}
+use Rattle.std.proofs.Common.{option_map}
+use Rattle.std.specs.List.{list_all}
 
 -- a name that stands before another is not the other
 apart : (x y : List ℕ) → slice_cmp nat_cmp x y ≡ Less → bytes_eq y x ≡ false

@@ -1,5 +1,5 @@
 -- The walk of each form by its parts, and what is passed on.
-use Rattle.std.proofs.Common.{◌≡◌, ℕ, List, [], ◌∷◌, ◌++◌, map, Option, Some, None, option_map, refl, sym, ap, ◌∙◌, subst, Result, Ok, Err, IsErrAnd}
+use Rattle.std.proofs.Common.{◌≡◌, List, [], ◌∷◌, ◌++◌, map, Option, Some, None, option_map, refl, sym, ap, ◌∙◌, subst, Result, Ok, Err, IsErrAnd}
 use Rattle.hl_syntax.specs.declared.kinds.HlType.{HlType}
 use Rattle.hl_syntax.specs.declared.kinds.TypedName.{TypedName}
 use Rattle.hl_syntax.specs.declared.rules.Rule.{Rule}
@@ -29,11 +29,10 @@ pub passed : {X A : Type 0} (view : X → A) (found : Result A Broken) (refusal 
 passed view found refusal (Ok x) h k = absurd k
 passed view found refusal (Err e) h k = subst (λ (r : CheckRefusal). Shows view found (Err r)) (sym k) h
 
--- a form whose walk is this one is refused as the walk is
-pub refused : (c : Context) (form : ExprForm) (step : FormWalk) (span : Span) (scope : Scope) (expected : HlType) (rule : Rule) (met new : List TypedName) (refusal : CheckRefusal) (result : Result TypedForm CheckRefusal) →
-    form_walk c form ≡ step → Gives (step span scope expected rule met) (Err refusal) new → IsErrAnd result (λ e. e ≡ refusal) → Gives (form_walk c form span scope expected rule met) result new
-refused c form step span scope expected rule met new refusal result is h k =
-    subst (λ (w : FormWalk). Gives (w span scope expected rule met) result new) (sym is) (passed (λ x. (x, new)) (step span scope expected rule met) refusal result h k)
+-- what a form gives whose walk is this one
+pub walked : (c : Context) (form : ExprForm) (step : FormWalk) (span : Span) (scope : Scope) (expected : HlType) (rule : Rule) (met new : List TypedName) (result : Result TypedForm CheckRefusal) →
+    form_walk c form ≡ step → Gives (step span scope expected rule met) result new → Gives (form_walk c form span scope expected rule met) result new
+walked c form step span scope expected rule met new result is h = subst (λ (w : FormWalk). Gives (w span scope expected rule met) result new) (sym is) h
 
 module _ (c : Context) where
   pub walk-Block : (form : ExprForm) (statements given : List Statement) (last : Option Expr) → form ≡ exprs.Block statements last → given ≡ statements → form_walk c form ≡ form_step c (ExprForm-F.Block (map (statement_walk c) given) (option_map (expr_walk c) last))

@@ -95,8 +95,8 @@ impl<
                 kind,
                 value,
                 span: _,
-            } => Ok(self.binding(pattern, kind, value, body)?),
-            Statement::Plain(e) => Ok(self.plain(e, body)?),
+            } => self.binding(pattern, kind, value, body),
+            Statement::Plain(e) => self.plain(e, body),
         }
     }
 

@@ -83,7 +83,7 @@ fn given(alloc: Global, aliases: &Aliases, text: &Option<TypeText>) -> Result<Hl
     ensures sound { IfOk result IsSound }
 {
     match text {
-        Some(text) => Ok(written(alloc, text, aliases)?),
+        Some(text) => written(alloc, text, aliases),
         None => Ok(HlType::Tuple(HlTypes::new(alloc))),
     }
 }

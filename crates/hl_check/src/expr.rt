@@ -37,7 +37,7 @@ impl<
         ensures scope { OnOk result (body.new.scope ≡ body.old.scope) }
     {
         match arms {
-            [one, two] => Ok(self.matched(e, one, two, span, expected, rule, body)?),
+            [one, two] => self.matched(e, one, two, span, expected, rule, body),
             _ => Err(CheckRefusal::Rule {
                 rule: Rule::K13,
                 span,
@@ -105,65 +105,33 @@ impl<
         ensures scope { OnOk result (body.new.scope ≡ body.old.scope) }
     {
         match form {
-            ExprForm::Block(statements, last) => Ok(self.block(
-                statements.as_slice(),
-                last,
-                span,
-                expected,
-                rule,
-                body,
-            )?),
-            ExprForm::Match(e, arms) => Ok(self.matching(
-                e.get(),
-                arms.as_slice(),
-                span,
-                expected,
-                rule,
-                body,
-            )?),
-            ExprForm::Tuple(parts) => Ok(self.tuple(parts.as_slice(), span, expected, rule, body)?),
-            ExprForm::Array(parts) => Ok(self.array(parts.as_slice(), span, expected, rule, body)?),
-            ExprForm::List(parts) => Ok(self.list(parts.as_slice(), span, expected, rule, body)?),
-            ExprForm::Assert(e) => Ok(self.assertion(e.get(), span, expected, rule, body)?),
-            ExprForm::Dbg(e) => Ok(self.debug(e.get(), span, expected, rule, body)?),
+            ExprForm::Block(statements, last) => {
+                self.block(statements.as_slice(), last, span, expected, rule, body)
+            }
+            ExprForm::Match(e, arms) => {
+                self.matching(e.get(), arms.as_slice(), span, expected, rule, body)
+            }
+            ExprForm::Tuple(parts) => self.tuple(parts.as_slice(), span, expected, rule, body),
+            ExprForm::Array(parts) => self.array(parts.as_slice(), span, expected, rule, body),
+            ExprForm::List(parts) => self.list(parts.as_slice(), span, expected, rule, body),
+            ExprForm::Assert(e) => self.assertion(e.get(), span, expected, rule, body),
+            ExprForm::Dbg(e) => self.debug(e.get(), span, expected, rule, body),
             ExprForm::Panic => Ok(TypedForm::Panic),
-            ExprForm::Jet(name, parts) => Ok(self.jet(
-                name,
-                parts.as_slice(),
-                span,
-                expected,
-                rule,
-                body,
-            )?),
-            ExprForm::Witness(name) => Ok(self.checker.witness(name, span, expected, rule, body)?),
-            ExprForm::Param(name) => Ok(self.checker.param(name, span, expected, rule, body)?),
-            ExprForm::Into(text, e) => Ok(self.into(text, e.get(), span, expected, rule, body)?),
-            ExprForm::Unwrap(e) => Ok(self.unwrap(e.get(), span, expected, rule, body)?),
-            ExprForm::UnwrapLeft(text, e) => Ok(self.unwrap_left(
-                text,
-                e.get(),
-                span,
-                expected,
-                rule,
-                body,
-            )?),
-            ExprForm::UnwrapRight(text, e) => Ok(self.unwrap_right(
-                text,
-                e.get(),
-                span,
-                expected,
-                rule,
-                body,
-            )?),
-            ExprForm::IsNone(text, e) => Ok(self.is_none(
-                text,
-                e.get(),
-                span,
-                expected,
-                rule,
-                body,
-            )?),
-            ExprForm::Fold(name, count, list, total) => Ok(self.fold(
+            ExprForm::Jet(name, parts) => {
+                self.jet(name, parts.as_slice(), span, expected, rule, body)
+            }
+            ExprForm::Witness(name) => self.checker.witness(name, span, expected, rule, body),
+            ExprForm::Param(name) => self.checker.param(name, span, expected, rule, body),
+            ExprForm::Into(text, e) => self.into(text, e.get(), span, expected, rule, body),
+            ExprForm::Unwrap(e) => self.unwrap(e.get(), span, expected, rule, body),
+            ExprForm::UnwrapLeft(text, e) => {
+                self.unwrap_left(text, e.get(), span, expected, rule, body)
+            }
+            ExprForm::UnwrapRight(text, e) => {
+                self.unwrap_right(text, e.get(), span, expected, rule, body)
+            }
+            ExprForm::IsNone(text, e) => self.is_none(text, e.get(), span, expected, rule, body),
+            ExprForm::Fold(name, count, list, total) => self.fold(
                 name,
                 count,
                 list.get(),
@@ -172,8 +140,8 @@ impl<
                 expected,
                 rule,
                 body,
-            )?),
-            ExprForm::ArrayFold(name, count, array, total) => Ok(self.array_fold(
+            ),
+            ExprForm::ArrayFold(name, count, array, total) => self.array_fold(
                 name,
                 count,
                 array.get(),
@@ -182,8 +150,8 @@ impl<
                 expected,
                 rule,
                 body,
-            )?),
-            ExprForm::ForWhile(name, total, context) => Ok(self.for_while(
+            ),
+            ExprForm::ForWhile(name, total, context) => self.for_while(
                 name,
                 total.get(),
                 context.get(),
@@ -191,23 +159,18 @@ impl<
                 expected,
                 rule,
                 body,
-            )?),
-            ExprForm::Left(e) => Ok(self.left(e.get(), span, expected, rule, body)?),
-            ExprForm::Right(e) => Ok(self.right(e.get(), span, expected, rule, body)?),
-            ExprForm::Some(e) => Ok(self.some(e.get(), span, expected, rule, body)?),
-            ExprForm::Nothing => Ok(self.nothing(span, expected, rule, body)?),
-            ExprForm::True => Ok(self.truth(span, expected, rule, body)?),
-            ExprForm::False => Ok(self.falsehood(span, expected, rule, body)?),
-            ExprForm::Literal(word) => Ok(self.checker.literal(word, span, expected, rule, body)?),
-            ExprForm::Call(name, parts) => Ok(self.call(
-                name,
-                parts.as_slice(),
-                span,
-                expected,
-                rule,
-                body,
-            )?),
-            ExprForm::Name(name) => Ok(self.checker.name(name, span, expected, rule, body)?),
+            ),
+            ExprForm::Left(e) => self.left(e.get(), span, expected, rule, body),
+            ExprForm::Right(e) => self.right(e.get(), span, expected, rule, body),
+            ExprForm::Some(e) => self.some(e.get(), span, expected, rule, body),
+            ExprForm::Nothing => self.nothing(span, expected, rule, body),
+            ExprForm::True => self.truth(span, expected, rule, body),
+            ExprForm::False => self.falsehood(span, expected, rule, body),
+            ExprForm::Literal(word) => self.checker.literal(word, span, expected, rule, body),
+            ExprForm::Call(name, parts) => {
+                self.call(name, parts.as_slice(), span, expected, rule, body)
+            }
+            ExprForm::Name(name) => self.checker.name(name, span, expected, rule, body),
         }
     }
 

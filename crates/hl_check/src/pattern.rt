@@ -83,17 +83,17 @@ pub(crate) fn bind_pattern(
 {
     let span = pattern.span;
     match &pattern.form {
-        PatternForm::Name(name) => Ok(bind_name(alloc, name, span, kind, bound)?),
+        PatternForm::Name(name) => bind_name(alloc, name, span, kind, bound),
         PatternForm::Ignore => Ok(()),
         PatternForm::Tuple(parts) => {
             let kinds = tuple_parts(kind, Rule::K6, span)?;
             needs(parts.len() == kinds.len(), Rule::K8, span)?;
-            Ok(bind_parts(alloc, parts.as_slice(), kinds.as_slice(), bound)?)
+            bind_parts(alloc, parts.as_slice(), kinds.as_slice(), bound)
         }
         PatternForm::Array(parts) => {
             let (item, count) = array_parts(kind, Rule::K6, span)?;
             needs(parts.len() == count as usize, Rule::K8, span)?;
-            Ok(bind_items(alloc, parts.as_slice(), item, bound)?)
+            bind_items(alloc, parts.as_slice(), item, bound)
         }
     }
 }

@@ -149,7 +149,7 @@ fn item(
             name,
             kind,
             span: _,
-        } => Ok(alias(alloc, known, name, kind)?),
+        } => alias(alloc, known, name, kind),
         Item::Function {
             name,
             params,

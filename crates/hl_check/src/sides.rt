@@ -147,13 +147,13 @@ pub(crate) fn matched_type(
 {
     match (first, second) {
         (TypedSide::Left(_, left), TypedSide::Right(_, right)) => {
-            Ok(either_type(alloc, left, right)?)
+            either_type(alloc, left, right)
         }
         (TypedSide::Right(_, right), TypedSide::Left(_, left)) => {
-            Ok(either_type(alloc, left, right)?)
+            either_type(alloc, left, right)
         }
-        (TypedSide::Nothing, TypedSide::Some(_, item)) => Ok(option_type(alloc, item)?),
-        (TypedSide::Some(_, item), TypedSide::Nothing) => Ok(option_type(alloc, item)?),
+        (TypedSide::Nothing, TypedSide::Some(_, item)) => option_type(alloc, item),
+        (TypedSide::Some(_, item), TypedSide::Nothing) => option_type(alloc, item),
         _ => Ok(HlType::Bool),
     }
 }

@@ -54,7 +54,7 @@ fn jet_types(alloc: Global, kinds: &[Option<JetKind>]) -> Result<HlTypes, AllocE
 pub(crate) fn argument_types(alloc: Global, row: &JetRow) -> Result<HlTypes, AllocError>
     ensures { IfOk result (λ types. types ≡ jet_arguments (row_of row.now)) }
 {
-    Ok(jet_types(alloc, &row.arguments)?)
+    jet_types(alloc, &row.arguments)
 }
 
 /// The type of a jet's results: `()` for none, a tuple for two.

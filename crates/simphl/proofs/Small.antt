@@ -7,7 +7,7 @@ use Rattle.small_source.proofs.Complete.{one_function}
 use Rattle.small_terms.specs.Result.{Span, first_unknown}
 use Rattle.command_outcome.specs.declared.status.Status.TheVariants.{Done, SourceRefused}
 use Rattle.command_outcome.specs.declared.stop.Stop.{Stop}
-use Rattle.command_outcome.specs.Answer.{IsOne, AreSettled, Never}
+use Rattle.command_outcome.specs.Answer.{IsOneIn, AreSettled, Never}
 use Rattle.command_outcome.specs.Source.{IsProgram, IsSource}
 use Rattle.command_outcome.specs.Stops.{Gives, IsStop, Stops}
 use Rattle.command_outcome.specs.Texts.{source_line}
@@ -44,14 +44,14 @@ same_line i m j n same =
     let counts : m ≡ n = ap count_of same in
     rw (starts, counts) refl
 
-pub one_small : (text asked : List ℕ) → IsOne (IsSmallOutcome text asked)
-one_small text asked s t o p e f (not_small none a) (not_small none' b) = one_refusal _ _ s t o p e f a b
+pub one_small : (text asked : List ℕ) → IsOneIn (λ _. []) (IsSmallOutcome text asked)
+one_small text asked s t o p e f (not_small none a) (not_small none' b) = one_refusal (λ _. []) _ _ s t o p e f a b
 one_small text asked s t o p e f (not_small none a) (unknown_name g j n small unknown b) = absurd (none g small)
 one_small text asked s t o p e f (not_small none a) (built line build b) = absurd (none build.function build.small)
 one_small text asked s t o p e f (unknown_name g i m small unknown a) (not_small none b) = absurd (none g small)
 one_small text asked s t o p e f (unknown_name g i m small unknown a) (unknown_name h j n small' unknown' b) =
     let same : ◌≡◌ {A = Option Span} (Some (i, m)) (Some (j, n)) = sym unknown ∙ same_unknown text asked g h small small' ∙ unknown' in
-    same_refusal _ _ _ (same_line i m j n same) s t o p e f a b
+    same_refusal (λ _. []) _ _ _ (same_line i m j n same) s t o p e f a b
 one_small text asked s t o p e f (unknown_name g i m small unknown a) (built line build b) =
     let same = sym unknown ∙ same_unknown text asked g build.function small build.small ∙ build.lined.known in
     absurd (cc)
@@ -59,7 +59,7 @@ one_small text asked s t o p e f (built line build a) (not_small none b) = absur
 one_small text asked s t o p e f (built line build a) (unknown_name g j n small unknown b) =
     let same = sym unknown ∙ same_unknown text asked g build.function small build.small ∙ build.lined.known in
     absurd (cc)
-one_small text asked s t o p e f (built line build a) (built line' build' b) = (a.status_is ∙ sym b.status_is, a.nothing ∙ sym b.nothing)
+one_small text asked s t o p e f (built line build a) (built line' build' b) = (a.status_is ∙ sym b.status_is, (refl, a.nothing ∙ sym b.nothing))
 
 -- what the code answers
 pub unknown_stops : (text asked : List ℕ) (start count : ℕ) (stop : Stop) → HasUnknown text asked start count → IsStop SourceRefused (source_line (codes "K4") start (start + count)) stop → Stops (IsSmallOutcome text asked) stop

@@ -4,7 +4,7 @@ use Rattle.small_source.specs.Small.{Small, IsSmall}
 use Rattle.small_terms.specs.Result.{first_unknown}
 use Rattle.command_outcome.specs.declared.status.Status.{Status}
 use Rattle.command_outcome.specs.declared.status.Status.TheVariants.{SourceRefused, WordsRefused, ReadFault}
-use Rattle.command_outcome.specs.Answer.{Answer, IsDone, IsOne, IsRefusal}
+use Rattle.command_outcome.specs.Answer.{Answer, IsDone, IsOne, IsOneWhole, IsRefusal}
 use Rattle.command_outcome.specs.Source.{IsPassed, IsSource}
 use Rattle.command_outcome.specs.Texts.{words_line, read_line, source_line}
 use Rattle.command_words.specs.Words.{Evaluation, Reading, BuildOf, EvalOf, Misfit}
@@ -61,3 +61,7 @@ IsOutcome (EvalOf asked) files = IsEvalOutcome asked files
 -- there is one status, and one text on `err`
 abbrev pub OutcomeIsOne : Type 0
 OutcomeIsOne = (reading : Reading) (files : Contents) → IsOne (IsOutcome reading files)
+
+-- of an evaluation there is one text on `out` too
+abbrev pub EvalOutcomeIsOne : Type 0
+EvalOutcomeIsOne = (asked : Evaluation) (files : Contents) → IsOneWhole (IsEvalOutcome asked files)

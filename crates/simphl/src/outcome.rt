@@ -5,7 +5,7 @@ ghost use Rattle.command_outcome.specs.Stops.{Gives};
 ghost use Rattle.command_words.specs.Asked.{evaluation_of};
 ghost use Rattle.command_words.specs.Words.{BuildOf, EvalOf, reading, texts};
 ghost use Rattle.simphl.specs.Answer.{HasRead, IsAllowed};
-ghost use Rattle.simphl.specs.Outcome.{OutcomeIsOne};
+ghost use Rattle.simphl.specs.Outcome.{EvalOutcomeIsOne, OutcomeIsOne};
 
 use crate::build::build_source;
 use crate::files::{lent, read_data, read_file};
@@ -83,9 +83,11 @@ fn compose_eval<F: Files>(
     evaluate_source(alloc, source.as_slice(), given)
 }
 
-/// The law that an outcome is one: its status, and its text for standard error.
+/// The law that an outcome is one: its status, and its text for standard error; of an evaluation its
+/// text for standard output too.
 pub fn one_outcome()
-    ensures { OutcomeIsOne }
+    ensures outcome { OutcomeIsOne }
+    ensures evaluation { EvalOutcomeIsOne }
 {
     one_program_law();
     program_fronts_law();

@@ -685,6 +685,27 @@ fn evaluates_each_source(rt: HostRuntime) -> Result<(), Fail> {
     Ok(())
 }
 
+/// The words of the data files, the status, and the text on `err`.
+static DATA_FILES: [(&str, &str, Status, &str); 7] = [
+    ("args=long", "wit=none", Status::LimitReached, "limit L10\n"),
+    ("wit=none", "args=long", Status::LimitReached, "limit L10\n"),
+    (
+        "args=empty",
+        "wit=long",
+        Status::LimitReached,
+        "limit L10\n",
+    ),
+    ("args=none", "wit=long", Status::ReadFault, "read none\n"),
+    ("args=empty", "wit=none", Status::ReadFault, "read none\n"),
+    (
+        "args=full",
+        "wit=empty",
+        Status::DataRefused,
+        "data NotJson args\n",
+    ),
+    ("wit=empty", "args=empty", Status::ReadFault, "read empty\n"),
+];
+
 #[test]
 fn reads_data_files_in_order(rt: HostRuntime) -> Result<(), Fail> {
     let alloc = rt.alloc();
@@ -696,62 +717,11 @@ fn reads_data_files_in_order(rt: HostRuntime) -> Result<(), Fail> {
     files.hold("empty", b"{}")?;
     // The second file of the last row.
     files.fail_at(17)?;
-    let rows: [(&str, &str, &str, Status, &str); 7] = [
-        (
-            "args=long",
-            "wit=none",
-            "",
-            Status::LimitReached,
-            "limit L10\n",
-        ),
-        (
-            "wit=none",
-            "args=long",
-            "",
-            Status::LimitReached,
-            "limit L10\n",
-        ),
-        (
-            "args=empty",
-            "wit=long",
-            "",
-            Status::LimitReached,
-            "limit L10\n",
-        ),
-        (
-            "args=none",
-            "wit=long",
-            "",
-            Status::ReadFault,
-            "read none\n",
-        ),
-        (
-            "args=empty",
-            "wit=none",
-            "",
-            Status::ReadFault,
-            "read none\n",
-        ),
-        (
-            "args=full",
-            "wit=empty",
-            "",
-            Status::DataRefused,
-            "data NotJson args\n",
-        ),
-        (
-            "wit=empty",
-            "args=empty",
-            "",
-            Status::ReadFault,
-            "read empty\n",
-        ),
-    ];
-    for (first, second, on_out, wanted, on_err) in rows {
+    for (first, second, wanted, on_err) in DATA_FILES.iter() {
         let words = ["eval", "a.hl", first, second];
         let ended = run(alloc, words.as_slice(), &mut files, NO_FAULTS)?;
-        assert_eq!(rt; ended.status, wanted, "{first} {second}");
-        assert_eq!(rt; ended.out.bytes(), on_out.as_bytes(), "{first} {second}");
+        assert_eq!(rt; ended.status, *wanted, "{first} {second}");
+        assert!(rt; ended.out.bytes().is_empty(), "{first} {second}");
         assert_eq!(rt; ended.err.bytes(), on_err.as_bytes(), "{first} {second}");
     }
     Ok(())

@@ -1,4 +1,4 @@
-//! Sources and the limits that they break, and long blocks.
+//! Sources and the limits that they break, long blocks and deep ones.
 
 use hl_check::{CheckRefusal, check};
 use hl_data::Entries;
@@ -116,5 +116,19 @@ fn long_blocks(rt: HostRuntime) -> Result<(), Fail> {
         span,
     };
     assert_eq!(rt; refusal_of(rt.alloc(), broken.as_str())?, Some(wanted));
+    Ok(())
+}
+
+/// A program whose body is so many blocks in one another.
+fn deep_blocks(alloc: Global, count: usize) -> Result<String, AllocError> {
+    let opened = "{".repeat(alloc, count)?;
+    let closed = "}".repeat(alloc, count)?;
+    format!(in alloc; "fn main() {opened}{closed}")
+}
+
+#[test]
+fn blocks_as_deep_as_may_be(rt: HostRuntime) -> Result<(), Fail> {
+    let deep = deep_blocks(rt.alloc(), 128)?;
+    assert_eq!(rt; refusal_of(rt.alloc(), deep.as_str())?, None);
     Ok(())
 }

@@ -1,6 +1,6 @@
-use Rattle.std.proofs.Common.{◌≡◌, ◌≢◌, ℕ, ◌<◌, ◌≤◌, ◌+◌, Bool, true, false, ◌&&◌, length, map, refl, sym, ap, ◌∙◌, arith}
+use Rattle.std.proofs.Common.{◌≡◌, ◌≢◌, ◌≤◌, ◌+◌, true, false, ◌&&◌, length, map, sym, ap, ◌∙◌}
 use Rattle.std.proofs.lemmas.List.{length-map}
-use Rattle.hl_rules.specs.Same.{same_type, all_same}
+use Rattle.hl_rules.specs.Same.{same_type}
 use Rattle.hl_check.proofs.Equal.{same-Tuple, not_same_length, same_next, same_end, left_same}
 use Rattle.hl_check.proofs.same.+same_type.Goals as goal
 

@@ -1,4 +1,3 @@
-use Rattle.std.proofs.Common.{◌≡◌}
 use Rattle.simplicityhl.specs.Kinds.{form}
 use Rattle.hl_check.proofs.Alike.{ids_same}
 use Rattle.hl_check.proofs.same.same_form.Goals as goal

@@ -1,25 +1,17 @@
-use Rattle.std.proofs.Common.{◌≡◌, ◌∙◌, List, [], ◌∷◌, Result, sym, subst}
+use Rattle.std.proofs.Common.{◌≡◌, List, [], ◌∷◌, Result, sym, subst}
 use Rattle.hl_syntax.specs.declared.kinds.TypedName.{TypedName}
 use Rattle.hl_data.specs.declared.typed.TypedForm.{TypedForm}
 use Rattle.simplicityhl.specs.Written.{Broken}
-use Rattle.hl_rules.specs.Exprs.{expr_walk, match_walk}
+use Rattle.hl_rules.specs.Exprs.{expr_walk}
 use Rattle.hl_check.specs.Gives.{Gives}
 use Rattle.hl_check.proofs.Pairs.{two_of}
-use Rattle.hl_check.proofs.Rolled.{match_two, passed}
+use Rattle.hl_check.proofs.Rolled.{match_two}
 use Rattle.hl_check.proofs.inner.Inner.matching.Goals as goal
 
-pub returns-in_err-matched-in-len2-clause-gives : goal.returns-in_err-matched-in-len2-clause-gives
-returns-in_err-matched-in-len2-clause-gives g c =
+pub returns-in-len2-clause-gives : goal.returns-in-len2-clause-gives
+returns-in-len2-clause-gives g c =
     let k = c.args.self.now.checker.now in
     let are : c.args.arms.now ≡ c.one-item.result ∷ c.two-item.result ∷ [] = two_of c.args.arms.now c.one-item.result c.two-item.result c.in-len2.len_at_least c.in-len2.len_below c.one-item.is c.two-item.is in
-    subst (λ (w : Result (TypedForm × List TypedName) Broken). Gives w c.from_residual.result c.matched.new.body.met)
+    subst (λ (w : Result (TypedForm × List TypedName) Broken). Gives w c.matched.result c.matched.new.body.met)
     (sym (match_two k (expr_walk k c.args.e.now) c.args.arms.now c.one-item.result c.two-item.result c.args.span c.args.body.now.scope c.args.expected.now c.args.rule c.args.body.now.met are))
-    (passed (λ x. (x, c.matched.new.body.met)) (match_walk k.aliases (expr_walk k c.args.e.now) (record { side = c.one-item.result.side; body = expr_walk k c.one-item.result.body }) (record { side = c.two-item.result.side; body = expr_walk k c.two-item.result.body }) c.args.span c.args.body.now.scope c.args.expected.now c.args.rule c.args.body.now.met)
-    c.in_err-matched-in-len2.field-0.0 c.from_residual.result c.in_err-matched-in-len2.ensures.gives c.from_residual.ensures.1)
-
-pub returns-in_ok-matched-in-len2-clause-gives : goal.returns-in_ok-matched-in-len2-clause-gives
-returns-in_ok-matched-in-len2-clause-gives g c =
-    let k = c.args.self.now.checker.now in
-    let are : c.args.arms.now ≡ c.one-item.result ∷ c.two-item.result ∷ [] = two_of c.args.arms.now c.one-item.result c.two-item.result c.in-len2.len_at_least c.in-len2.len_below c.one-item.is c.two-item.is in
-    match_two k (expr_walk k c.args.e.now) c.args.arms.now c.one-item.result c.two-item.result c.args.span c.args.body.now.scope c.args.expected.now c.args.rule c.args.body.now.met are
-    ∙ c.in_ok-matched-in-len2.ensures.gives
+    c.matched.ensures.gives
