@@ -5,9 +5,9 @@ use Rattle.std.specs.Option.{option_copied}
 use denote.Bor.{Bor}
 use Rattle.hl_data.specs.declared.typed.TypedFunction.{TypedFunction}
 use Rattle.hl_progress.specs.Calls.{argument_type, function_of}
-use Rattle.hl_check.specs.declared.refusal.CheckRefusal.{CheckRefusal}
-use Rattle.hl_check.specs.declared.refusal.CheckRefusal.TheVariants as check_refusal
-use Rattle.hl_check.specs.Gives as checks
+use Rattle.hl_scope.specs.declared.refusal.CheckRefusal.{CheckRefusal}
+use Rattle.hl_scope.specs.declared.refusal.CheckRefusal.TheVariants as check_refusal
+use Rattle.hl_scope.specs.Checks as checks
 use Rattle.hl_data.specs.declared.value.Entry.{Entry}
 use Rattle.hl_data.specs.declared.value.HlValue.{HlValue}
 use Rattle.hl_files.specs.Reads.{Reads, ReadsWanted}
@@ -53,7 +53,7 @@ args_stop file names Next (text_refusal.BadValue name) stop read is = refused (I
 args_stop file names Next text_refusal.OutOfMemory stop read is = rw is tt
 
 -- The rules.
-pub rules_stop : (Next : Checked → Answer) (found : Result Checked Broken) (refusal : CheckRefusal) (stop : Stop) → checks.Answers {A = Checked} found (Err refusal) → StopsRules refusal stop → Stops (AfterRules Next found) stop
+pub rules_stop : (Next : Checked → Answer) (found : Result Checked Broken) (refusal : CheckRefusal) (stop : Stop) → checks.Checks {A = Checked} found (Err refusal) → StopsRules refusal stop → Stops (AfterRules Next found) stop
 rules_stop Next found (check_refusal.Rule rule span) stop read is = rw read (refused (AfterRules Next (Err (breaks_rule rule span))) _ _ stop is (λ s o e a. a))
 rules_stop Next found (check_refusal.Limit limit span) stop read is = rw read (refused (AfterRules Next (Err (breaks_limit limit span))) _ _ stop is (λ s o e a. a))
 rules_stop Next found check_refusal.OutOfMemory stop read is = rw is tt

@@ -1,8 +1,8 @@
 -- What the parts of the code answer.
 use Rattle.std.specs.Prelude.{◌≡◌, List, ℕ, [], Option, Some, None, Result, Ok, Err, codes}
 use Rattle.std.specs.Option.{option_copied}
-use Rattle.hl_check.specs.declared.refusal.CheckRefusal.{CheckRefusal}
-use Rattle.hl_check.specs.declared.refusal.CheckRefusal.TheVariants as check_refusal
+use Rattle.hl_scope.specs.declared.refusal.CheckRefusal.{CheckRefusal}
+use Rattle.hl_scope.specs.declared.refusal.CheckRefusal.TheVariants as check_refusal
 use Rattle.hl_data.specs.declared.value.HlValue.{HlValue}
 use Rattle.hl_data.specs.declared.value.HlValue.TheVariants as value
 use Rattle.hl_files.specs.declared.refusal.TextRefusal.{TextRefusal}

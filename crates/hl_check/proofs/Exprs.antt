@@ -12,7 +12,7 @@ use Rattle.simplicityhl.specs.Written.{Broken, then_walk}
 use Rattle.hl_rules.specs.Places.{Scope, Context}
 use Rattle.hl_rules.specs.Exprs.{expr_walk, statement_walk, parts_walk, items_walk, statements_walk}
 use Rattle.hl_check.specs.Inner.{IsInner}
-use Rattle.hl_check.proofs.Drops.{drop_item, drop_got, drop_past}
+use Rattle.hl_types.proofs.Drops.{drop_item, drop_got, drop_past}
 
 -- what was found, before what the rest gives
 abbrev pub after : {A : Type 0} → List A → Result (List A × List TypedName) Broken → Result (List A × List TypedName) Broken

@@ -22,17 +22,17 @@ use Rattle.hl_rules.specs.Places.{Context, Scope}
 use Rattle.hl_rules.specs.Exprs.{ExprWalk, FormWalk, StatementWalk, ArmWalk, form_step, statement_step, arm_step, expr_step, expr_walk, statement_walk, form_walk, are_sides, side_walk, matched_type, match_walk}
 use Rattle.hl_rules.specs.Steps as steps
 use Rattle.hl_check.specs.Arms.{arm_walk}
-use Rattle.hl_check.specs.Gives.{Gives, Shows}
-use Rattle.hl_check.specs.declared.refusal.CheckRefusal.{CheckRefusal}
+use Rattle.hl_scope.specs.Checks.{ChecksMet, ChecksAs}
+use Rattle.hl_scope.specs.declared.refusal.CheckRefusal.{CheckRefusal}
 
-pub passed : {X A : Type 0} (view : X → A) (found : Result A Broken) (refusal : CheckRefusal) (result : Result X CheckRefusal) → Shows view found (Err refusal) → IsErrAnd result (λ e. e ≡ refusal) → Shows view found result
+pub passed : {X A : Type 0} (view : X → A) (found : Result A Broken) (refusal : CheckRefusal) (result : Result X CheckRefusal) → ChecksAs view found (Err refusal) → IsErrAnd result (λ e. e ≡ refusal) → ChecksAs view found result
 passed view found refusal (Ok x) h k = absurd k
-passed view found refusal (Err e) h k = subst (λ (r : CheckRefusal). Shows view found (Err r)) (sym k) h
+passed view found refusal (Err e) h k = subst (λ (r : CheckRefusal). ChecksAs view found (Err r)) (sym k) h
 
 -- what a form gives whose walk is this one
 pub walked : (c : Context) (form : ExprForm) (step : FormWalk) (span : Span) (scope : Scope) (expected : HlType) (rule : Rule) (met new : List TypedName) (result : Result TypedForm CheckRefusal) →
-    form_walk c form ≡ step → Gives (step span scope expected rule met) result new → Gives (form_walk c form span scope expected rule met) result new
-walked c form step span scope expected rule met new result is h = subst (λ (w : FormWalk). Gives (w span scope expected rule met) result new) (sym is) h
+    form_walk c form ≡ step → ChecksMet (step span scope expected rule met) result new → ChecksMet (form_walk c form span scope expected rule met) result new
+walked c form step span scope expected rule met new result is h = subst (λ (w : FormWalk). ChecksMet (w span scope expected rule met) result new) (sym is) h
 
 module _ (c : Context) where
   pub walk-Block : (form : ExprForm) (statements given : List Statement) (last : Option Expr) → form ≡ exprs.Block statements last → given ≡ statements → form_walk c form ≡ form_step c (ExprForm-F.Block (map (statement_walk c) given) (option_map (expr_walk c) last))

@@ -22,18 +22,18 @@ use Rattle.hl_rules.specs.Places.{is_main}
 use Rattle.hl_rules.specs.Programs.{Known, Checked, checked, checked_of, function_walk, item_walk, items_walk}
 use Rattle.hl_rules.specs.Steps as steps
 use Rattle.hl_typed.specs.Typed.{BreaksNothing}
-use Rattle.hl_check.specs.Gives.{Answers, Gives, Shows}
+use Rattle.hl_scope.specs.Checks.{Checks, ChecksMet, ChecksAs}
 use Rattle.hl_check.specs.Knowns.{alias_known}
 use Rattle.hl_check.specs.Tells.{TellsBroken}
-use Rattle.hl_check.specs.declared.refusal.CheckRefusal.{CheckRefusal}
-use Rattle.hl_check.specs.declared.refusal.CheckRefusal.TheVariants as refusals
+use Rattle.hl_scope.specs.declared.refusal.CheckRefusal.{CheckRefusal}
+use Rattle.hl_scope.specs.declared.refusal.CheckRefusal.TheVariants as refusals
 use Rattle.hl_check.proofs.Rolled.{passed}
 
 pub bound_all : (names copies bound none : List TypedName) → bound ≡ copies ++ none → none ≡ [] → copies ≡ names → bound ≡ names
 bound_all names copies bound none a b d = a ∙ rw (b, d, append-nil) refl
 
 -- what begins with a refused part is refused as that is
-pub shows_then : {X Y A B : Type 0} (view : X → A) (other : Y → B) (w : Result A Broken) (next : A → Result B Broken) (refusal : CheckRefusal) → Shows view w (Err refusal) → Shows other (then_walk w next) (Err refusal)
+pub shows_then : {X Y A B : Type 0} (view : X → A) (other : Y → B) (w : Result A Broken) (next : A → Result B Broken) (refusal : CheckRefusal) → ChecksAs view w (Err refusal) → ChecksAs other (then_walk w next) (Err refusal)
 shows_then view other w next (refusals.Rule rule span) h = rw h refl
 shows_then view other w next (refusals.Limit limit span) h = rw h refl
 shows_then view other w next refusals.OutOfMemory h = tt
@@ -53,14 +53,14 @@ module _ (entries : List Entry) (known : Known) (name : Mark) (params : List Par
   function_found head found after h k = function_is head h ∙ ap (λ w. then_walk w (function_of head)) k
 
   pub function_refused : (head : Head) (walk : Result (TypedExpr × List TypedName) Broken) (new : List TypedName) (refusal : CheckRefusal) (result : Result (TypedFunction × List TypedName) CheckRefusal) →
-      head_walk known.aliases known.functions name params text ≡ Ok head → walk ≡ body_walk head → Gives walk (Err refusal) new → IsErrAnd result (λ x. x ≡ refusal) → Answers (function_walk entries known name params text e met) result
+      head_walk known.aliases known.functions name params text ≡ Ok head → walk ≡ body_walk head → ChecksMet walk (Err refusal) new → IsErrAnd result (λ x. x ≡ refusal) → Checks (function_walk entries known name params text e met) result
   function_refused head walk new refusal result h same k is =
-      subst (λ (w : Result (TypedFunction × List TypedName) Broken). Answers w result) (sym (function_is head h ∙ ap (λ w. then_walk w (function_of head)) (sym same)))
+      subst (λ (w : Result (TypedFunction × List TypedName) Broken). Checks w result) (sym (function_is head h ∙ ap (λ w. then_walk w (function_of head)) (sym same)))
       (passed (λ x. x) (then_walk walk (function_of head)) refusal result (shows_then (λ (x : TypedExpr). (x, new)) (λ (x : TypedFunction × List TypedName). x) walk (function_of head) refusal k) is)
 
 -- an alias that is refused
 pub alias_refused : {X Y : Type 0} (view : Y → List TypedName) (other : X → Known × List TypedName) (known : Known) (name : Mark) (text : TypeText) (met : List TypedName) (refusal : CheckRefusal) (result : Result X CheckRefusal) →
-    Shows view (alias_walk known.aliases name text) (Err refusal) → IsErrAnd result (λ x. x ≡ refusal) → Shows other (alias_known known name text met) result
+    ChecksAs view (alias_walk known.aliases name text) (Err refusal) → IsErrAnd result (λ x. x ≡ refusal) → ChecksAs other (alias_known known name text met) result
 alias_refused view other known name text met refusal result h k =
     let keep : List TypedName → Result (List TypedName × List TypedName) Broken = λ x. Ok (x, met) in
     let give : List TypedName × List TypedName → Result (Known × List TypedName) Broken = λ x. Ok (record { aliases = x.0; functions = known.functions }, x.1) in
@@ -78,15 +78,15 @@ module _ (entries : List Entry) (known : Known) (met : List TypedName) (item : I
   item_found f after is h = ap (λ (i : Item). item_walk entries known i met) is ∙ ap (λ w. then_walk w (with_function known)) h
 
   pub item_refused : {X : Type 0} (other : X → Known × List TypedName) (refusal : CheckRefusal) (result : Result X CheckRefusal) → item ≡ items.Function name params text e span →
-      Answers (function_walk entries known name params text e met) (Err refusal) → IsErrAnd result (λ x. x ≡ refusal) → Shows other (item_walk entries known item met) result
+      Checks (function_walk entries known name params text e met) (Err refusal) → IsErrAnd result (λ x. x ≡ refusal) → ChecksAs other (item_walk entries known item met) result
   item_refused other refusal result is h k =
-      subst (λ (i : Item). Shows other (item_walk entries known i met) result) (sym is)
+      subst (λ (i : Item). ChecksAs other (item_walk entries known i met) result) (sym is)
       (passed other (then_walk (function_walk entries known name params text e met) (with_function known)) refusal result
       (shows_then (λ (x : TypedFunction × List TypedName). x) other (function_walk entries known name params text e met) (with_function known) refusal h) k)
 
 -- Programs.
 
-shows_checked : {X Y : Type 0} (view : X → List TypedFunction × List TypedName) (other : Y → Checked) (w : Result (List TypedFunction × List TypedName) Broken) (refusal : CheckRefusal) → Shows view w (Err refusal) → Shows other (checked_of w) (Err refusal)
+shows_checked : {X Y : Type 0} (view : X → List TypedFunction × List TypedName) (other : Y → Checked) (w : Result (List TypedFunction × List TypedName) Broken) (refusal : CheckRefusal) → ChecksAs view w (Err refusal) → ChecksAs other (checked_of w) (Err refusal)
 shows_checked view other w (refusals.Rule rule span) h = rw h refl
 shows_checked view other w (refusals.Limit limit span) h = rw h refl
 shows_checked view other w refusals.OutOfMemory h = tt
@@ -112,16 +112,16 @@ module _ (program : List Item) (asked : List ℕ) (entries : List Entry) (end : 
   checked_is = refl
 
   module _ {X : Type 0} (other : X → Checked) (refusal : CheckRefusal) (result : Result X CheckRefusal) where
-    pub program_refused : {Y : Type 0} (view : Y → Known × List TypedName) → Shows view all_items (Err refusal) → IsErrAnd result (λ x. x ≡ refusal) → Shows other (checked program asked entries end) result
+    pub program_refused : {Y : Type 0} (view : Y → Known × List TypedName) → ChecksAs view all_items (Err refusal) → IsErrAnd result (λ x. x ≡ refusal) → ChecksAs other (checked program asked entries end) result
     program_refused view h k =
-        subst (λ (w : Result Checked Broken). Shows other w result) (sym checked_is)
+        subst (λ (w : Result Checked Broken). ChecksAs other w result) (sym checked_is)
         (passed other (checked_of (then_walk all_items then_asked)) refusal result
         (shows_checked (λ (x : List TypedFunction × List TypedName). x) other (then_walk all_items then_asked) refusal (shows_then view (λ (x : List TypedFunction × List TypedName). x) all_items then_asked refusal h)) k)
 
-    pub asked_refused : (aliases : List TypedName) (functions : List TypedFunction) (met : List TypedName) → all_items ≡ Ok (record { aliases = aliases; functions = functions }, met) → Answers (asked_for functions) (Err refusal) → IsErrAnd result (λ x. x ≡ refusal) →
-        Shows other (checked program asked entries end) result
+    pub asked_refused : (aliases : List TypedName) (functions : List TypedFunction) (met : List TypedName) → all_items ≡ Ok (record { aliases = aliases; functions = functions }, met) → Checks (asked_for functions) (Err refusal) → IsErrAnd result (λ x. x ≡ refusal) →
+        ChecksAs other (checked program asked entries end) result
     asked_refused aliases functions met h k is =
-        subst (λ (w : Result Checked Broken). Shows other w result) (sym (checked_is ∙ ap (λ (w : Result (Known × List TypedName) Broken). checked_of (then_walk w then_asked)) h))
+        subst (λ (w : Result Checked Broken). ChecksAs other w result) (sym (checked_is ∙ ap (λ (w : Result (Known × List TypedName) Broken). checked_of (then_walk w then_asked)) h))
         (passed other (checked_of (then_walk (then_walk (asked_for functions) (keep met)) (give functions))) refusal result
         (shows_checked (λ (x : List TypedFunction × List TypedName). x) other (then_walk (then_walk (asked_for functions) (keep met)) (give functions)) refusal
         (shows_then (λ (x : Unit {0} × List TypedName). x) (λ (x : List TypedFunction × List TypedName). x) (then_walk (asked_for functions) (keep met)) (give functions) refusal
@@ -138,7 +138,7 @@ module _ (program : List Item) (asked : List ℕ) (entries : List Entry) (end : 
   breaks_nothing aliases functions met h k valued = record { program = program; asked = asked; entries = entries; end = end; is = program_found aliases functions met h k; valued = valued }
 
   -- what answers as the walk does tells what is broken
-  pub told_broken : (result : Result Checked CheckRefusal) → Answers (checked program asked entries end) result → TellsBroken (Breaks program asked entries end) result
+  pub told_broken : (result : Result Checked CheckRefusal) → Checks (checked program asked entries end) result → TellsBroken (Breaks program asked entries end) result
   told_broken (Ok found) h = tt
   told_broken (Err (refusals.Rule rule span)) h = answered program asked entries end (breaks_rule rule span) h
   told_broken (Err (refusals.Limit limit span)) h = answered program asked entries end (breaks_limit limit span) h

@@ -1,7 +1,5 @@
 pub mod Arms
-pub mod Contexts
-pub mod Gives
-pub mod Heads
+pub mod Forms
 pub mod Inner
 pub mod Knowns
 pub mod Nests

@@ -1,7 +1,7 @@
 -- What an answer tells of a text.
 use Rattle.std.specs.Prelude.{Result, Ok, Err}
-use Rattle.hl_check.specs.declared.refusal.CheckRefusal.{CheckRefusal}
-use Rattle.hl_check.specs.declared.refusal.CheckRefusal.TheVariants.{Rule, Limit, OutOfMemory}
+use Rattle.hl_scope.specs.declared.refusal.CheckRefusal.{CheckRefusal}
+use Rattle.hl_scope.specs.declared.refusal.CheckRefusal.TheVariants.{Rule, Limit, OutOfMemory}
 use Rattle.simplicityhl.specs.Written.{Broken, breaks_rule, breaks_limit}
 
 -- the rule or limit that was answered is broken

@@ -1,24 +1,21 @@
 //! Blocks and matches.
 
-ghost use Rattle.std.specs.Prelude.{◌≡◌, ◌++◌, ◌∷◌, [], map, option_map, IfOk, OnOk};
+ghost use Rattle.std.specs.Prelude.{◌≡◌, ◌∷◌, [], IfOk, OnOk};
 ghost use Rattle.hl_data.specs.declared.typed.TypedForm.{TypedForm};
-ghost use Rattle.hl_syntax.specs.declared.tree.ExprForm.TheOpen.{ExprForm-F};
-ghost use Rattle.hl_rules.specs.Exprs.{expr_walk, form_step, last_walk, let_walk, match_walk, plain_walk, statement_walk, statements_walk};
+ghost use Rattle.hl_rules.specs.Exprs.{statement_walk};
 ghost use Rattle.simplicityhl.specs.Kinds.{IsSound};
-ghost use Rattle.hl_check.specs.Gives.{Gives, Shows};
+ghost use Rattle.hl_scope.specs.Checks.{ChecksAt, ChecksIn, ChecksScoped};
 ghost use Rattle.hl_check.specs.Inner.{IsInner};
+ghost use Rattle.hl_check.specs.Forms.{arm_in, block_form, last_in, let_in, plain_in, statements_in, two_arms_form};
 ghost use Rattle.hl_check.specs.Nests.{Nests};
 
-use crate::body::Body;
-use crate::context::Checker;
-use crate::copies::copy_pattern;
 use crate::inner::Inner;
-use crate::pattern::bind_pattern;
-use crate::refusal::{CheckRefusal, needs};
-use crate::same::is_unit;
-use crate::sides::{are_sides, matched_type, side_at};
 use hl_data::{TypedArm, TypedArms, TypedExpr, TypedForm, TypedStatement, TypedStatements};
-use hl_syntax::{Arm, Expr, HlType, HlTypes, Pattern, Rule, Span, Statement, TypeText, Wanted};
+use hl_scope::{
+    Asked, Body, CheckRefusal, Checker, are_sides, bind_pattern, copy_pattern, is_unit,
+    matched_type, needs, side_at,
+};
+use hl_syntax::{Arm, Expr, HlType, HlTypes, Pattern, Rule, Statement, TypeText, Wanted};
 use lists::Boxed;
 use std::alloc::{AllocError, Global};
 
@@ -50,16 +47,16 @@ impl<
         body: &mut Body,
     ) -> Result<TypedStatement, CheckRefusal>
         requires nests { Nests self.now.depth (F.pre self.now.expr) (F.post self.now.expr) }
-        ensures gives { Shows (λ typed. ((typed, body.new.scope), body.new.met)) (let_walk self.now.checker.now.aliases pattern.now text.now (expr_walk self.now.checker.now value.now) body.old.scope body.old.met) result }
+        ensures gives { ChecksScoped (let_in self.now pattern.now text.now value.now) result body.old body.new }
         ensures inner { OnOk result (IsInner body.old.scope body.new.scope) }
     {
         let alloc = self.checker.alloc();
         let kind = self.checker.written(text)?;
         let mut bound = Wanted::new(alloc);
         bind_pattern(alloc, pattern, &kind, &mut bound)?;
+        let pattern = copy_pattern(alloc, pattern)?;
         let value = self.part(value, &kind, Rule::K6, body)?;
         body.scope.bind(bound)?;
-        let pattern = copy_pattern(alloc, pattern)?;
         Ok(TypedStatement::Let {
             pattern,
             kind,
@@ -68,10 +65,10 @@ impl<
     }
 
     /// A statement that is no `let`.
-    #[tactic(auto, using(crate::proofs::Exprs::inner_equal, crate::proofs::Sounds::unit_sound))]
+    #[tactic(auto, using(crate::proofs::Exprs::inner_equal, hl_scope::proofs::Sounds::unit_sound))]
     fn plain(&self, e: &Expr, body: &mut Body) -> Result<TypedStatement, CheckRefusal>
         requires nests { Nests self.now.depth (F.pre self.now.expr) (F.post self.now.expr) }
-        ensures gives { Shows (λ typed. ((typed, body.new.scope), body.new.met)) (plain_walk (expr_walk self.now.checker.now e.now) body.old.scope body.old.met) result }
+        ensures gives { ChecksScoped (plain_in self.now e.now) result body.old body.new }
         ensures inner { OnOk result (IsInner body.old.scope body.new.scope) }
     {
         let unit = HlType::Tuple(HlTypes::new(self.checker.alloc()));
@@ -86,7 +83,7 @@ impl<
         body: &mut Body,
     ) -> Result<TypedStatement, CheckRefusal>
         requires nests { Nests self.now.depth (F.pre self.now.expr) (F.post self.now.expr) }
-        ensures gives { Shows (λ typed. ((typed, body.new.scope), body.new.met)) (statement_walk self.now.checker.now statement.now body.old.scope body.old.met) result }
+        ensures gives { ChecksScoped (statement_walk self.now.checker.now statement.now) result body.old body.new }
         ensures inner { OnOk result (IsInner body.old.scope body.new.scope) }
     {
         match statement {
@@ -108,7 +105,7 @@ impl<
         body: &mut Body,
     ) -> Result<TypedStatements, CheckRefusal>
         requires nests { Nests self.now.depth (F.pre self.now.expr) (F.post self.now.expr) }
-        ensures gives { Shows (λ typed. ((typed, body.new.scope), body.new.met)) (statements_walk (map (statement_walk self.now.checker.now) statements.now) body.old.scope body.old.met) result }
+        ensures gives { ChecksScoped (statements_in self.now statements.now) result body.old body.new }
         ensures inner { OnOk result (IsInner body.old.scope body.new.scope) }
     {
         let mut found = TypedStatements::new(self.checker.alloc());
@@ -123,23 +120,18 @@ impl<
     fn last(
         &self,
         last: &Option<Boxed<Expr>>,
-        span: Span,
-        expected: &HlType,
-        rule: Rule,
+        asked: Asked<'_>,
         body: &mut Body,
     ) -> Result<Option<Boxed<TypedExpr>>, CheckRefusal>
         requires nests { Nests self.now.depth (F.pre self.now.expr) (F.post self.now.expr) }
-        requires sound { IsSound expected.now }
-        ensures gives { Gives (last_walk (option_map (expr_walk self.now.checker.now) last.now) span body.old.scope expected.now rule body.old.met) result body.new.met }
+        requires sound { IsSound asked.expected.now }
+        ensures gives { ChecksAt (last_in self.now last.now) asked.entry result body.old body.new }
         ensures scope { OnOk result (body.new.scope ≡ body.old.scope) }
     {
         match last {
-            Some(e) => {
-                let found = self.part(e.get(), expected, Rule::K6, body)?;
-                Ok(Some(Boxed::new(self.checker.alloc(), found)?))
-            }
+            Some(e) => Ok(Some(self.boxed(e.get(), asked.expected, body)?)),
             None => {
-                needs(is_unit(expected), rule, span)?;
+                needs(is_unit(asked.expected), asked.rule, asked.span)?;
                 Ok(None)
             }
         }
@@ -150,19 +142,17 @@ impl<
         &self,
         statements: &[Statement],
         last: &Option<Boxed<Expr>>,
-        span: Span,
-        expected: &HlType,
-        rule: Rule,
+        asked: Asked<'_>,
         body: &mut Body,
     ) -> Result<TypedForm, CheckRefusal>
         requires nests { Nests self.now.depth (F.pre self.now.expr) (F.post self.now.expr) }
-        requires sound { IsSound expected.now }
-        ensures gives { Gives (form_step self.now.checker.now (ExprForm-F.Block (map (statement_walk self.now.checker.now) statements.now) (option_map (expr_walk self.now.checker.now) last.now)) span body.old.scope expected.now rule body.old.met) result body.new.met }
+        requires sound { IsSound asked.expected.now }
+        ensures gives { ChecksAt (block_form self.now statements.now last.now) asked.entry result body.old body.new }
         ensures scope { OnOk result (body.new.scope ≡ body.old.scope) }
     {
         let outer = body.scope.len();
         let found = self.statements(statements, body)?;
-        let end = self.last(last, span, expected, rule, body)?;
+        let end = self.last(last, asked, body)?;
         body.scope.leave(outer);
         Ok(TypedForm::Block(found, end))
     }
@@ -177,7 +167,7 @@ impl<
     ) -> Result<TypedExpr, CheckRefusal>
         requires nests { Nests self.now.depth (F.pre self.now.expr) (F.post self.now.expr) }
         requires sound { IsSound expected.now }
-        ensures gives { Gives (expr_walk self.now.checker.now e.now (bound ++ body.old.scope) expected.now Rule.K6 body.old.met) result body.new.met }
+        ensures gives { ChecksIn (arm_in self.now e.now bound expected.now) result body.old body.new }
         ensures scope { OnOk result (body.new.scope ≡ body.old.scope) }
     {
         let outer = body.scope.len();
@@ -193,24 +183,22 @@ impl<
         e: &Expr,
         one: &Arm,
         two: &Arm,
-        span: Span,
-        expected: &HlType,
-        rule: Rule,
+        asked: Asked<'_>,
         body: &mut Body,
     ) -> Result<TypedForm, CheckRefusal>
         requires nests { Nests self.now.depth (F.pre self.now.expr) (F.post self.now.expr) }
-        requires sound { IsSound expected.now }
-        ensures gives { Gives (match_walk self.now.checker.now.aliases (expr_walk self.now.checker.now e.now) (record { side = one.now.side; body = expr_walk self.now.checker.now one.now.body }) (record { side = two.now.side; body = expr_walk self.now.checker.now two.now.body }) span body.old.scope expected.now rule body.old.met) result body.new.met }
+        requires sound { IsSound asked.expected.now }
+        ensures gives { ChecksAt (two_arms_form self.now e.now one.now two.now) asked.entry result body.old body.new }
         ensures scope { OnOk result (body.new.scope ≡ body.old.scope) }
     {
         let alloc = self.checker.alloc();
-        needs(are_sides(&one.side, &two.side), Rule::K13, span)?;
+        needs(are_sides(&one.side, &two.side), Rule::K13, asked.span)?;
         let (first, first_bound) = side_at(alloc, self.checker.aliases(), &one.side)?;
         let (second, second_bound) = side_at(alloc, self.checker.aliases(), &two.side)?;
         let kind = matched_type(alloc, &first, &second)?;
         let value = self.part(e, &kind, Rule::K6, body)?;
-        let first_body = self.arm(&one.body, first_bound, expected, body)?;
-        let second_body = self.arm(&two.body, second_bound, expected, body)?;
+        let first_body = self.arm(&one.body, first_bound, asked.expected, body)?;
+        let second_body = self.arm(&two.body, second_bound, asked.expected, body)?;
         let one = TypedArm {
             side: first,
             body: first_body,

@@ -1,27 +1,23 @@
 //! Calls of functions and jets.
 
-ghost use Rattle.std.specs.Prelude.{◌≡◌, length, map, OnOk};
-ghost use Rattle.hl_syntax.specs.declared.tree.ExprForm.TheOpen.{ExprForm-F};
-ghost use Rattle.hl_rules.specs.Exprs.{expr_walk, form_step, parts_walk};
+ghost use Rattle.std.specs.Prelude.{◌≡◌, length, OnOk};
 ghost use Rattle.hl_types.specs.Walks.{AreSound};
 ghost use Rattle.simplicityhl.specs.Kinds.{IsSound};
-ghost use Rattle.hl_check.specs.Gives.{Gives};
+ghost use Rattle.hl_scope.specs.Checks.{ChecksAt, ChecksIn};
+ghost use Rattle.hl_check.specs.Forms.{arguments_in, call_form, jet_form};
 ghost use Rattle.hl_check.specs.Nests.{Nests};
 
-use crate::body::Body;
-use crate::context::Checker;
 use crate::inner::Inner;
-use crate::refusal::{CheckRefusal, needs};
-use crate::same::same_type;
-use crate::signature::{argument_types, jet_row, result_type};
 use hl_data::{TypedExpr, TypedExprs, TypedForm};
-use hl_syntax::{Expr, HlType, Mark, Rule, Span, Wanted};
+use hl_scope::{Asked, Body, CheckRefusal, Checker, argument_types, jet_row, needs, result_type};
+use hl_syntax::{Expr, HlType, Mark, Rule, Wanted};
+use hl_types::same_type;
 
 impl<
     F: Fn(&Checker<'_>, u16, &Expr, &HlType, Rule, &mut Body) -> Result<TypedExpr, CheckRefusal>,
 > Inner<'_, F> {
     /// Arguments at the types of parameters, one after the other.
-    #[tactic(auto, using(crate::proofs::Exprs::argument_next, crate::proofs::Exprs::no_argument, crate::proofs::Sounds::param_sound))]
+    #[tactic(auto, using(crate::proofs::Exprs::argument_next, crate::proofs::Exprs::no_argument, hl_scope::proofs::Sounds::param_sound))]
     fn arguments(
         &self,
         parts: &[Expr],
@@ -31,7 +27,7 @@ impl<
         requires nests { Nests self.now.depth (F.pre self.now.expr) (F.post self.now.expr) }
         requires as_many { length parts.now ≡ length params.now }
         requires sound { AreSound params.now }
-        ensures gives { Gives (parts_walk (map (expr_walk self.now.checker.now) parts.now) (map (λ p. p.kind) params.now) body.old.scope body.old.met) result body.new.met }
+        ensures gives { ChecksIn (arguments_in self.now parts.now params.now) result body.old body.new }
         ensures scope { OnOk result (body.new.scope ≡ body.old.scope) }
     {
         let mut found = TypedExprs::new(self.checker.alloc());
@@ -48,21 +44,20 @@ impl<
         &self,
         name: &Mark,
         parts: &[Expr],
-        span: Span,
-        expected: &HlType,
-        rule: Rule,
+        asked: Asked<'_>,
         body: &mut Body,
     ) -> Result<TypedForm, CheckRefusal>
         requires nests { Nests self.now.depth (F.pre self.now.expr) (F.post self.now.expr) }
-        requires sound { IsSound expected.now }
-        ensures gives { Gives (form_step self.now.checker.now (ExprForm-F.Call name.now (map (expr_walk self.now.checker.now) parts.now)) span body.old.scope expected.now rule body.old.met) result body.new.met }
+        requires sound { IsSound asked.expected.now }
+        ensures gives { ChecksAt (call_form self.now name.now parts.now) asked.entry result body.old body.new }
         ensures scope { OnOk result (body.new.scope ≡ body.old.scope) }
     {
         let f = self.checker.function(name)?;
-        needs(parts.len() == f.params.len(), Rule::K11, span)?;
-        needs(same_type(&f.result, expected), rule, span)?;
+        needs(parts.len() == f.params.len(), Rule::K11, asked.span)?;
+        needs(same_type(&f.result, asked.expected), asked.rule, asked.span)?;
+        let name = name.text.clone()?;
         let found = self.arguments(parts, &f.params, body)?;
-        Ok(TypedForm::Call(name.text.clone()?, found))
+        Ok(TypedForm::Call(name, found))
     }
 
     /// A call of a jet.
@@ -70,22 +65,21 @@ impl<
         &self,
         name: &Mark,
         parts: &[Expr],
-        span: Span,
-        expected: &HlType,
-        rule: Rule,
+        asked: Asked<'_>,
         body: &mut Body,
     ) -> Result<TypedForm, CheckRefusal>
         requires nests { Nests self.now.depth (F.pre self.now.expr) (F.post self.now.expr) }
-        requires sound { IsSound expected.now }
-        ensures gives { Gives (form_step self.now.checker.now (ExprForm-F.Jet name.now (map (expr_walk self.now.checker.now) parts.now)) span body.old.scope expected.now rule body.old.met) result body.new.met }
+        requires sound { IsSound asked.expected.now }
+        ensures gives { ChecksAt (jet_form self.now name.now parts.now) asked.entry result body.old body.new }
         ensures scope { OnOk result (body.new.scope ≡ body.old.scope) }
     {
         let row = jet_row(name)?;
         let kinds = argument_types(self.checker.alloc(), &row)?;
-        needs(parts.len() == kinds.len(), Rule::K11, span)?;
+        needs(parts.len() == kinds.len(), Rule::K11, asked.span)?;
         let given = result_type(self.checker.alloc(), &row)?;
-        needs(same_type(&given, expected), rule, span)?;
+        needs(same_type(&given, asked.expected), asked.rule, asked.span)?;
+        let name = name.text.clone()?;
         let found = self.parts(parts, kinds.as_slice(), body)?;
-        Ok(TypedForm::Jet(name.text.clone()?, found))
+        Ok(TypedForm::Jet(name, found))
     }
 }

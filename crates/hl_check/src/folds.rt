@@ -1,23 +1,18 @@
 //! Loops.
 
 ghost use Rattle.std.specs.Prelude.{◌≡◌, OnOk};
-ghost use Rattle.hl_syntax.specs.declared.tree.ExprForm.TheOpen.{ExprForm-F};
-ghost use Rattle.hl_rules.specs.Exprs.{expr_walk, form_step};
 ghost use Rattle.simplicityhl.specs.Kinds.{IsSound};
-ghost use Rattle.hl_check.specs.Gives.{Gives};
+ghost use Rattle.hl_check.specs.Forms.{Folds, FoldsAll, TurnsWhile};
 ghost use Rattle.hl_check.specs.Nests.{Nests};
 
-use crate::body::Body;
-use crate::context::Checker;
-use crate::counts::{counted, is_list_bound};
 use crate::inner::Inner;
-use crate::loops::{fold_shape, while_shape};
-use crate::refusal::{CheckRefusal, needs};
-use crate::same::same_type;
-use crate::sides::{array_type, list_type};
 use hl_data::{TypedExpr, TypedForm};
-use hl_syntax::{Expr, HlType, Mark, Rule, Span};
-use lists::Boxed;
+use hl_scope::{
+    Asked, Body, CheckRefusal, Checker, array_type, counted, fold_shape, list_type, needs,
+    while_shape,
+};
+use hl_syntax::{Expr, HlType, Mark, Rule};
+use hl_types::{is_list_bound, same_type};
 
 impl<
     F: Fn(&Checker<'_>, u16, &Expr, &HlType, Rule, &mut Body) -> Result<TypedExpr, CheckRefusal>,
@@ -29,14 +24,12 @@ impl<
         count: &Mark,
         list: &Expr,
         total: &Expr,
-        span: Span,
-        expected: &HlType,
-        rule: Rule,
+        asked: Asked<'_>,
         body: &mut Body,
     ) -> Result<TypedForm, CheckRefusal>
         requires nests { Nests self.now.depth (F.pre self.now.expr) (F.post self.now.expr) }
-        requires sound { IsSound expected.now }
-        ensures gives { Gives (form_step self.now.checker.now (ExprForm-F.Fold name.now count.now (expr_walk self.now.checker.now list.now) (expr_walk self.now.checker.now total.now)) span body.old.scope expected.now rule body.old.met) result body.new.met }
+        requires sound { IsSound asked.expected.now }
+        ensures gives { Folds self.now name.now count.now list.now total.now asked.entry result body.old body.new }
         ensures scope { OnOk result (body.new.scope ≡ body.old.scope) }
     {
         let alloc = self.checker.alloc();
@@ -49,11 +42,13 @@ impl<
             });
         }
         let (item, start) = fold_shape(f, name)?;
-        needs(same_type(&f.result, expected), rule, span)?;
+        needs(same_type(&f.result, asked.expected), asked.rule, asked.span)?;
         let kind = list_type(alloc, item, bound)?;
-        let items = Boxed::new(alloc, self.part(list, &kind, Rule::K6, body)?)?;
-        let start = Boxed::new(alloc, self.part(total, start, Rule::K6, body)?)?;
-        Ok(TypedForm::Fold(name.text.clone()?, count.text.clone()?, items, start))
+        let name = name.text.clone()?;
+        let count = count.text.clone()?;
+        let items = self.boxed(list, &kind, body)?;
+        let start = self.boxed(total, start, body)?;
+        Ok(TypedForm::Fold(name, count, items, start))
     }
 
     /// `array_fold::<name, count>(array, total)`
@@ -63,25 +58,25 @@ impl<
         count: &Mark,
         array: &Expr,
         total: &Expr,
-        span: Span,
-        expected: &HlType,
-        rule: Rule,
+        asked: Asked<'_>,
         body: &mut Body,
     ) -> Result<TypedForm, CheckRefusal>
         requires nests { Nests self.now.depth (F.pre self.now.expr) (F.post self.now.expr) }
-        requires sound { IsSound expected.now }
-        ensures gives { Gives (form_step self.now.checker.now (ExprForm-F.ArrayFold name.now count.now (expr_walk self.now.checker.now array.now) (expr_walk self.now.checker.now total.now)) span body.old.scope expected.now rule body.old.met) result body.new.met }
+        requires sound { IsSound asked.expected.now }
+        ensures gives { FoldsAll self.now name.now count.now array.now total.now asked.entry result body.old body.new }
         ensures scope { OnOk result (body.new.scope ≡ body.old.scope) }
     {
         let alloc = self.checker.alloc();
         let f = self.checker.function(name)?;
         let length = counted(count)?;
         let (item, start) = fold_shape(f, name)?;
-        needs(same_type(&f.result, expected), rule, span)?;
+        needs(same_type(&f.result, asked.expected), asked.rule, asked.span)?;
         let kind = array_type(alloc, item, length)?;
-        let items = Boxed::new(alloc, self.part(array, &kind, Rule::K6, body)?)?;
-        let start = Boxed::new(alloc, self.part(total, start, Rule::K6, body)?)?;
-        Ok(TypedForm::ArrayFold(name.text.clone()?, count.text.clone()?, items, start))
+        let name = name.text.clone()?;
+        let count = count.text.clone()?;
+        let items = self.boxed(array, &kind, body)?;
+        let start = self.boxed(total, start, body)?;
+        Ok(TypedForm::ArrayFold(name, count, items, start))
     }
 
     /// `for_while::<name>(total, context)`
@@ -90,22 +85,20 @@ impl<
         name: &Mark,
         total: &Expr,
         context: &Expr,
-        span: Span,
-        expected: &HlType,
-        rule: Rule,
+        asked: Asked<'_>,
         body: &mut Body,
     ) -> Result<TypedForm, CheckRefusal>
         requires nests { Nests self.now.depth (F.pre self.now.expr) (F.post self.now.expr) }
-        requires sound { IsSound expected.now }
-        ensures gives { Gives (form_step self.now.checker.now (ExprForm-F.ForWhile name.now (expr_walk self.now.checker.now total.now) (expr_walk self.now.checker.now context.now)) span body.old.scope expected.now rule body.old.met) result body.new.met }
+        requires sound { IsSound asked.expected.now }
+        ensures gives { TurnsWhile self.now name.now total.now context.now asked.entry result body.old body.new }
         ensures scope { OnOk result (body.new.scope ≡ body.old.scope) }
     {
-        let alloc = self.checker.alloc();
         let f = self.checker.function(name)?;
         let (start, given) = while_shape(f, name)?;
-        needs(same_type(&f.result, expected), rule, span)?;
-        let start = Boxed::new(alloc, self.part(total, start, Rule::K6, body)?)?;
-        let given = Boxed::new(alloc, self.part(context, given, Rule::K6, body)?)?;
-        Ok(TypedForm::ForWhile(name.text.clone()?, start, given))
+        needs(same_type(&f.result, asked.expected), asked.rule, asked.span)?;
+        let name = name.text.clone()?;
+        let start = self.boxed(total, start, body)?;
+        let given = self.boxed(context, given, body)?;
+        Ok(TypedForm::ForWhile(name, start, given))
     }
 }

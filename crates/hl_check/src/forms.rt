@@ -1,22 +1,19 @@
 //! Expressions with parts, each form at its type.
 
-ghost use Rattle.std.specs.Prelude.{◌≡◌, map, OnOk};
-ghost use Rattle.hl_syntax.specs.declared.tree.ExprForm.TheOpen.{ExprForm-F};
-ghost use Rattle.hl_rules.specs.Exprs.{expr_walk, form_step};
+ghost use Rattle.std.specs.Prelude.{◌≡◌, OnOk};
 ghost use Rattle.simplicityhl.specs.Kinds.{IsSound};
-ghost use Rattle.hl_check.specs.Gives.{Gives};
+ghost use Rattle.hl_scope.specs.Checks.{ChecksAt};
+ghost use Rattle.hl_check.specs.Forms.{array_form, assert_form, dbg_form, into_form, is_none_form, left_form, list_form, right_form, some_form, tuple_form, unwrap_form, unwrap_left_form, unwrap_right_form};
 ghost use Rattle.hl_check.specs.Nests.{Nests};
 
-use crate::body::Body;
-use crate::context::Checker;
 use crate::inner::Inner;
-use crate::refusal::{CheckRefusal, needs};
-use crate::same::{is_bool, is_unit, same_form};
-use crate::shapes::{array_parts, either_sides, list_parts, option_item, tuple_parts};
-use crate::sides::{either_type, option_type};
 use hl_data::{TypedExpr, TypedForm};
-use hl_syntax::{Expr, HlType, Rule, Span, TypeText};
-use lists::Boxed;
+use hl_scope::{
+    Asked, Body, CheckRefusal, Checker, array_parts, either_sides, either_type, is_bool, is_unit,
+    list_parts, needs, option_item, option_type, tuple_parts,
+};
+use hl_syntax::{Expr, HlType, Rule, TypeText};
+use hl_types::same_form;
 
 impl<
     F: Fn(&Checker<'_>, u16, &Expr, &HlType, Rule, &mut Body) -> Result<TypedExpr, CheckRefusal>,
@@ -25,18 +22,16 @@ impl<
     pub(crate) fn tuple(
         &self,
         parts: &[Expr],
-        span: Span,
-        expected: &HlType,
-        rule: Rule,
+        asked: Asked<'_>,
         body: &mut Body,
     ) -> Result<TypedForm, CheckRefusal>
         requires nests { Nests self.now.depth (F.pre self.now.expr) (F.post self.now.expr) }
-        requires sound { IsSound expected.now }
-        ensures gives { Gives (form_step self.now.checker.now (ExprForm-F.Tuple (map (expr_walk self.now.checker.now) parts.now)) span body.old.scope expected.now rule body.old.met) result body.new.met }
+        requires sound { IsSound asked.expected.now }
+        ensures gives { ChecksAt (tuple_form self.now parts.now) asked.entry result body.old body.new }
         ensures scope { OnOk result (body.new.scope ≡ body.old.scope) }
     {
-        let kinds = tuple_parts(expected, rule, span)?;
-        needs(parts.len() == kinds.len(), Rule::K8, span)?;
+        let kinds = tuple_parts(asked.expected, asked.rule, asked.span)?;
+        needs(parts.len() == kinds.len(), Rule::K8, asked.span)?;
         let found = self.parts(parts, kinds.as_slice(), body)?;
         Ok(TypedForm::Tuple(found))
     }
@@ -45,18 +40,16 @@ impl<
     pub(crate) fn array(
         &self,
         parts: &[Expr],
-        span: Span,
-        expected: &HlType,
-        rule: Rule,
+        asked: Asked<'_>,
         body: &mut Body,
     ) -> Result<TypedForm, CheckRefusal>
         requires nests { Nests self.now.depth (F.pre self.now.expr) (F.post self.now.expr) }
-        requires sound { IsSound expected.now }
-        ensures gives { Gives (form_step self.now.checker.now (ExprForm-F.Array (map (expr_walk self.now.checker.now) parts.now)) span body.old.scope expected.now rule body.old.met) result body.new.met }
+        requires sound { IsSound asked.expected.now }
+        ensures gives { ChecksAt (array_form self.now parts.now) asked.entry result body.old body.new }
         ensures scope { OnOk result (body.new.scope ≡ body.old.scope) }
     {
-        let (item, count) = array_parts(expected, rule, span)?;
-        needs(parts.len() == count as usize, Rule::K8, span)?;
+        let (item, count) = array_parts(asked.expected, asked.rule, asked.span)?;
+        needs(parts.len() == count as usize, Rule::K8, asked.span)?;
         let found = self.items(parts, item, body)?;
         Ok(TypedForm::Array(found))
     }
@@ -65,77 +58,69 @@ impl<
     pub(crate) fn list(
         &self,
         parts: &[Expr],
-        span: Span,
-        expected: &HlType,
-        rule: Rule,
+        asked: Asked<'_>,
         body: &mut Body,
     ) -> Result<TypedForm, CheckRefusal>
         requires nests { Nests self.now.depth (F.pre self.now.expr) (F.post self.now.expr) }
-        requires sound { IsSound expected.now }
-        ensures gives { Gives (form_step self.now.checker.now (ExprForm-F.List (map (expr_walk self.now.checker.now) parts.now)) span body.old.scope expected.now rule body.old.met) result body.new.met }
+        requires sound { IsSound asked.expected.now }
+        ensures gives { ChecksAt (list_form self.now parts.now) asked.entry result body.old body.new }
         ensures scope { OnOk result (body.new.scope ≡ body.old.scope) }
     {
-        let (item, bound) = list_parts(expected, rule, span)?;
-        needs(parts.len() < bound as usize, Rule::K9, span)?;
+        let (item, bound) = list_parts(asked.expected, asked.rule, asked.span)?;
+        needs(parts.len() < bound as usize, Rule::K9, asked.span)?;
         let found = self.items(parts, item, body)?;
         Ok(TypedForm::List(found))
     }
 
     /// `assert!(e)`
-    #[tactic(auto, using(crate::proofs::Sounds::sound_bool))]
+    #[tactic(auto, using(hl_scope::proofs::Sounds::sound_bool))]
     pub(crate) fn assertion(
         &self,
         e: &Expr,
-        span: Span,
-        expected: &HlType,
-        rule: Rule,
+        asked: Asked<'_>,
         body: &mut Body,
     ) -> Result<TypedForm, CheckRefusal>
         requires nests { Nests self.now.depth (F.pre self.now.expr) (F.post self.now.expr) }
-        requires sound { IsSound expected.now }
-        ensures gives { Gives (form_step self.now.checker.now (ExprForm-F.Assert (expr_walk self.now.checker.now e.now)) span body.old.scope expected.now rule body.old.met) result body.new.met }
+        requires sound { IsSound asked.expected.now }
+        ensures gives { ChecksAt (assert_form self.now e.now) asked.entry result body.old body.new }
         ensures scope { OnOk result (body.new.scope ≡ body.old.scope) }
     {
-        needs(is_unit(expected), rule, span)?;
-        let found = self.part(e, &HlType::Bool, Rule::K6, body)?;
-        Ok(TypedForm::Assert(Boxed::new(self.checker.alloc(), found)?))
+        needs(is_unit(asked.expected), asked.rule, asked.span)?;
+        let found = self.boxed(e, &HlType::Bool, body)?;
+        Ok(TypedForm::Assert(found))
     }
 
     /// `dbg!(e)`
     pub(crate) fn debug(
         &self,
         e: &Expr,
-        span: Span,
-        expected: &HlType,
-        rule: Rule,
+        asked: Asked<'_>,
         body: &mut Body,
     ) -> Result<TypedForm, CheckRefusal>
         requires nests { Nests self.now.depth (F.pre self.now.expr) (F.post self.now.expr) }
-        requires sound { IsSound expected.now }
-        ensures gives { Gives (form_step self.now.checker.now (ExprForm-F.Dbg (expr_walk self.now.checker.now e.now)) span body.old.scope expected.now rule body.old.met) result body.new.met }
+        requires sound { IsSound asked.expected.now }
+        ensures gives { ChecksAt (dbg_form self.now e.now) asked.entry result body.old body.new }
         ensures scope { OnOk result (body.new.scope ≡ body.old.scope) }
     {
-        let found = self.part(e, expected, Rule::K6, body)?;
-        Ok(TypedForm::Dbg(Boxed::new(self.checker.alloc(), found)?))
+        let found = self.boxed(e, asked.expected, body)?;
+        Ok(TypedForm::Dbg(found))
     }
 
     /// `unwrap(e)`
     pub(crate) fn unwrap(
         &self,
         e: &Expr,
-        span: Span,
-        expected: &HlType,
-        rule: Rule,
+        asked: Asked<'_>,
         body: &mut Body,
     ) -> Result<TypedForm, CheckRefusal>
         requires nests { Nests self.now.depth (F.pre self.now.expr) (F.post self.now.expr) }
-        requires sound { IsSound expected.now }
-        ensures gives { Gives (form_step self.now.checker.now (ExprForm-F.Unwrap (expr_walk self.now.checker.now e.now)) span body.old.scope expected.now rule body.old.met) result body.new.met }
+        requires sound { IsSound asked.expected.now }
+        ensures gives { ChecksAt (unwrap_form self.now e.now) asked.entry result body.old body.new }
         ensures scope { OnOk result (body.new.scope ≡ body.old.scope) }
     {
-        let kind = option_type(self.checker.alloc(), expected)?;
-        let found = self.part(e, &kind, Rule::K6, body)?;
-        Ok(TypedForm::Unwrap(Boxed::new(self.checker.alloc(), found)?))
+        let kind = option_type(self.checker.alloc(), asked.expected)?;
+        let found = self.boxed(e, &kind, body)?;
+        Ok(TypedForm::Unwrap(found))
     }
 
     /// `unwrap_left::<other>(e)`
@@ -143,20 +128,18 @@ impl<
         &self,
         text: &TypeText,
         e: &Expr,
-        span: Span,
-        expected: &HlType,
-        rule: Rule,
+        asked: Asked<'_>,
         body: &mut Body,
     ) -> Result<TypedForm, CheckRefusal>
         requires nests { Nests self.now.depth (F.pre self.now.expr) (F.post self.now.expr) }
-        requires sound { IsSound expected.now }
-        ensures gives { Gives (form_step self.now.checker.now (ExprForm-F.UnwrapLeft text.now (expr_walk self.now.checker.now e.now)) span body.old.scope expected.now rule body.old.met) result body.new.met }
+        requires sound { IsSound asked.expected.now }
+        ensures gives { ChecksAt (unwrap_left_form self.now text.now e.now) asked.entry result body.old body.new }
         ensures scope { OnOk result (body.new.scope ≡ body.old.scope) }
     {
         let other = self.checker.written(text)?;
-        let kind = either_type(self.checker.alloc(), expected, &other)?;
-        let found = self.part(e, &kind, Rule::K6, body)?;
-        Ok(TypedForm::UnwrapLeft(other, Boxed::new(self.checker.alloc(), found)?))
+        let kind = either_type(self.checker.alloc(), asked.expected, &other)?;
+        let found = self.boxed(e, &kind, body)?;
+        Ok(TypedForm::UnwrapLeft(other, found))
     }
 
     /// `unwrap_right::<other>(e)`
@@ -164,20 +147,18 @@ impl<
         &self,
         text: &TypeText,
         e: &Expr,
-        span: Span,
-        expected: &HlType,
-        rule: Rule,
+        asked: Asked<'_>,
         body: &mut Body,
     ) -> Result<TypedForm, CheckRefusal>
         requires nests { Nests self.now.depth (F.pre self.now.expr) (F.post self.now.expr) }
-        requires sound { IsSound expected.now }
-        ensures gives { Gives (form_step self.now.checker.now (ExprForm-F.UnwrapRight text.now (expr_walk self.now.checker.now e.now)) span body.old.scope expected.now rule body.old.met) result body.new.met }
+        requires sound { IsSound asked.expected.now }
+        ensures gives { ChecksAt (unwrap_right_form self.now text.now e.now) asked.entry result body.old body.new }
         ensures scope { OnOk result (body.new.scope ≡ body.old.scope) }
     {
         let other = self.checker.written(text)?;
-        let kind = either_type(self.checker.alloc(), &other, expected)?;
-        let found = self.part(e, &kind, Rule::K6, body)?;
-        Ok(TypedForm::UnwrapRight(other, Boxed::new(self.checker.alloc(), found)?))
+        let kind = either_type(self.checker.alloc(), &other, asked.expected)?;
+        let found = self.boxed(e, &kind, body)?;
+        Ok(TypedForm::UnwrapRight(other, found))
     }
 
     /// `is_none::<item>(e)`
@@ -185,21 +166,19 @@ impl<
         &self,
         text: &TypeText,
         e: &Expr,
-        span: Span,
-        expected: &HlType,
-        rule: Rule,
+        asked: Asked<'_>,
         body: &mut Body,
     ) -> Result<TypedForm, CheckRefusal>
         requires nests { Nests self.now.depth (F.pre self.now.expr) (F.post self.now.expr) }
-        requires sound { IsSound expected.now }
-        ensures gives { Gives (form_step self.now.checker.now (ExprForm-F.IsNone text.now (expr_walk self.now.checker.now e.now)) span body.old.scope expected.now rule body.old.met) result body.new.met }
+        requires sound { IsSound asked.expected.now }
+        ensures gives { ChecksAt (is_none_form self.now text.now e.now) asked.entry result body.old body.new }
         ensures scope { OnOk result (body.new.scope ≡ body.old.scope) }
     {
         let item = self.checker.written(text)?;
-        needs(is_bool(expected), rule, span)?;
+        needs(is_bool(asked.expected), asked.rule, asked.span)?;
         let kind = option_type(self.checker.alloc(), &item)?;
-        let found = self.part(e, &kind, Rule::K6, body)?;
-        Ok(TypedForm::IsNone(item, Boxed::new(self.checker.alloc(), found)?))
+        let found = self.boxed(e, &kind, body)?;
+        Ok(TypedForm::IsNone(item, found))
     }
 
     /// `<source>::into(e)`
@@ -207,77 +186,69 @@ impl<
         &self,
         text: &TypeText,
         e: &Expr,
-        span: Span,
-        expected: &HlType,
-        rule: Rule,
+        asked: Asked<'_>,
         body: &mut Body,
     ) -> Result<TypedForm, CheckRefusal>
         requires nests { Nests self.now.depth (F.pre self.now.expr) (F.post self.now.expr) }
-        requires sound { IsSound expected.now }
-        ensures gives { Gives (form_step self.now.checker.now (ExprForm-F.Into text.now (expr_walk self.now.checker.now e.now)) span body.old.scope expected.now rule body.old.met) result body.new.met }
+        requires sound { IsSound asked.expected.now }
+        ensures gives { ChecksAt (into_form self.now text.now e.now) asked.entry result body.old body.new }
         ensures scope { OnOk result (body.new.scope ≡ body.old.scope) }
     {
         let source = self.checker.written(text)?;
-        let fits = same_form(self.checker.alloc(), &source, expected)?;
-        needs(fits, Rule::K12, span)?;
-        let found = self.part(e, &source, Rule::K6, body)?;
-        Ok(TypedForm::Into(source, Boxed::new(self.checker.alloc(), found)?))
+        let fits = same_form(self.checker.alloc(), &source, asked.expected)?;
+        needs(fits, Rule::K12, asked.span)?;
+        let found = self.boxed(e, &source, body)?;
+        Ok(TypedForm::Into(source, found))
     }
 
     /// `Left(e)`
     pub(crate) fn left(
         &self,
         e: &Expr,
-        span: Span,
-        expected: &HlType,
-        rule: Rule,
+        asked: Asked<'_>,
         body: &mut Body,
     ) -> Result<TypedForm, CheckRefusal>
         requires nests { Nests self.now.depth (F.pre self.now.expr) (F.post self.now.expr) }
-        requires sound { IsSound expected.now }
-        ensures gives { Gives (form_step self.now.checker.now (ExprForm-F.Left (expr_walk self.now.checker.now e.now)) span body.old.scope expected.now rule body.old.met) result body.new.met }
+        requires sound { IsSound asked.expected.now }
+        ensures gives { ChecksAt (left_form self.now e.now) asked.entry result body.old body.new }
         ensures scope { OnOk result (body.new.scope ≡ body.old.scope) }
     {
-        let (left, _) = either_sides(expected, rule, span)?;
-        let found = self.part(e, left, Rule::K6, body)?;
-        Ok(TypedForm::Left(Boxed::new(self.checker.alloc(), found)?))
+        let (left, _) = either_sides(asked.expected, asked.rule, asked.span)?;
+        let found = self.boxed(e, left, body)?;
+        Ok(TypedForm::Left(found))
     }
 
     /// `Right(e)`
     pub(crate) fn right(
         &self,
         e: &Expr,
-        span: Span,
-        expected: &HlType,
-        rule: Rule,
+        asked: Asked<'_>,
         body: &mut Body,
     ) -> Result<TypedForm, CheckRefusal>
         requires nests { Nests self.now.depth (F.pre self.now.expr) (F.post self.now.expr) }
-        requires sound { IsSound expected.now }
-        ensures gives { Gives (form_step self.now.checker.now (ExprForm-F.Right (expr_walk self.now.checker.now e.now)) span body.old.scope expected.now rule body.old.met) result body.new.met }
+        requires sound { IsSound asked.expected.now }
+        ensures gives { ChecksAt (right_form self.now e.now) asked.entry result body.old body.new }
         ensures scope { OnOk result (body.new.scope ≡ body.old.scope) }
     {
-        let (_, right) = either_sides(expected, rule, span)?;
-        let found = self.part(e, right, Rule::K6, body)?;
-        Ok(TypedForm::Right(Boxed::new(self.checker.alloc(), found)?))
+        let (_, right) = either_sides(asked.expected, asked.rule, asked.span)?;
+        let found = self.boxed(e, right, body)?;
+        Ok(TypedForm::Right(found))
     }
 
     /// `Some(e)`
     pub(crate) fn some(
         &self,
         e: &Expr,
-        span: Span,
-        expected: &HlType,
-        rule: Rule,
+        asked: Asked<'_>,
         body: &mut Body,
     ) -> Result<TypedForm, CheckRefusal>
         requires nests { Nests self.now.depth (F.pre self.now.expr) (F.post self.now.expr) }
-        requires sound { IsSound expected.now }
-        ensures gives { Gives (form_step self.now.checker.now (ExprForm-F.Some (expr_walk self.now.checker.now e.now)) span body.old.scope expected.now rule body.old.met) result body.new.met }
+        requires sound { IsSound asked.expected.now }
+        ensures gives { ChecksAt (some_form self.now e.now) asked.entry result body.old body.new }
         ensures scope { OnOk result (body.new.scope ≡ body.old.scope) }
     {
-        let item = option_item(expected, rule, span)?;
-        let found = self.part(e, item, Rule::K6, body)?;
-        Ok(TypedForm::Some(Boxed::new(self.checker.alloc(), found)?))
+        let item = option_item(asked.expected, asked.rule, asked.span)?;
+        let found = self.boxed(e, item, body)?;
+        Ok(TypedForm::Some(found))
     }
 }

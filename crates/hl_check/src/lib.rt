@@ -3,29 +3,14 @@
 #![tactic(auto)]
 
 mod block;
-mod body;
 mod calls;
-mod context;
-mod copies;
-mod counts;
-mod declared;
 mod expr;
 mod folds;
 mod forms;
 mod inner;
-mod leaf;
 mod literal;
-mod loops;
-mod names;
-mod pattern;
 mod program;
-mod refusal;
-mod same;
-mod scope;
-mod shapes;
-mod sides;
-mod signature;
 
+pub use hl_scope::CheckRefusal;
 pub use hl_typed::TypedProgram;
 pub use program::check;
-pub use refusal::CheckRefusal;

@@ -1,22 +1,17 @@
 //! Programs.
 
-ghost use Rattle.std.specs.Prelude.{◌≡◌, ◌++◌, ◌∷◌, [], IfOk};
-ghost use Rattle.std.specs.List.{All};
+ghost use Rattle.std.specs.Prelude.{◌≡◌, [], IfOk};
 ghost use Rattle.hl_rules.specs.Breaks.{Breaks};
 ghost use Rattle.hl_rules.specs.Entries.{AreValued};
-ghost use Rattle.hl_rules.specs.Programs.{checked, function_walk, item_walk, items_walk};
-ghost use Rattle.hl_check.specs.Contexts.{IsSoundFunction};
-ghost use Rattle.hl_check.specs.Gives.{Answers, Gives, Shows};
+ghost use Rattle.hl_rules.specs.Programs.{checked, item_walk, items_walk};
+ghost use Rattle.hl_scope.specs.Contexts.{IsSoundFunction};
+ghost use Rattle.hl_scope.specs.Checks.{Checks, ChecksAs};
 ghost use Rattle.hl_check.specs.Tells.{TellsBroken};
-ghost use Rattle.hl_check.specs.Knowns.{IsSoundKnown, alias_known, known_of};
+ghost use Rattle.hl_check.specs.Knowns.{IsSoundKnown, alias_known, and_function, function_after, known_of, nothing_known, walked_of};
 
-use crate::body::Body;
-use crate::context::Checker;
-use crate::declared::{declare_alias, has_function, head};
 use crate::expr::{MOST_DEPTH, expr};
-use crate::refusal::{CheckRefusal, needs};
-use crate::scope::Scope;
 use hl_data::{Entries, Functions, TypedFunction};
+use hl_scope::{Body, CheckRefusal, Checker, Scope, declare_alias, has_function, head, needs};
 use hl_syntax::{
     Aliases, Expr, Item, Mark, Param, Program, Rule, Span, TypeText, TypedName, Wanted,
 };
@@ -45,7 +40,7 @@ fn function(
     e: &Expr,
 ) -> Result<(TypedFunction, Wanted), CheckRefusal>
     requires { IsSoundKnown (known_of known.now) }
-    ensures gives { Answers (function_walk entries.now (known_of known.now) name.now parts.now text.now e.now known.now.met) result }
+    ensures gives { Checks (function_after entries.now known.now name.now parts.now text.now e.now) result }
     ensures sound { IfOk result (λ found. IsSoundFunction found.0) }
 {
     let functions = known.functions.as_slice();
@@ -95,7 +90,7 @@ fn copy_names(alloc: Global, names: &[TypedName]) -> Result<Wanted, AllocError>
 /// What is known after an alias.
 fn alias(alloc: Global, known: Walked, name: &Mark, text: &TypeText) -> Result<Walked, CheckRefusal>
     requires { IsSoundKnown (known_of known) }
-    ensures gives { Shows (λ next. (known_of next, next.met)) (alias_known (known_of known) name.now text.now known.met) result }
+    ensures gives { ChecksAs walked_of (alias_known (known_of known) name.now text.now known.met) result }
     ensures sound { IfOk result (λ next. IsSoundKnown (known_of next)) }
 {
     let Walked {
@@ -112,11 +107,11 @@ fn alias(alloc: Global, known: Walked, name: &Mark, text: &TypeText) -> Result<W
 }
 
 /// What is known after a function.
-#[tactic(auto, using(crate::proofs::Sounds::one_function_sound))]
+#[tactic(auto, using(hl_scope::proofs::Sounds::one_function_sound))]
 fn with_function(known: Walked, f: TypedFunction, met: Wanted) -> Result<Walked, AllocError>
     requires known { IsSoundKnown (known_of known) }
     requires function { IsSoundFunction f }
-    ensures known { IfOk result (λ next. known_of next ≡ record { aliases = known.aliases; functions = known.functions ++ f ∷ [] }) }
+    ensures known { IfOk result (λ next. known_of next ≡ and_function (known_of known) f) }
     ensures met { IfOk result (λ next. next.met ≡ met) }
     ensures sound { IfOk result (λ next. IsSoundKnown (known_of next)) }
 {
@@ -141,7 +136,7 @@ fn item(
     item: &Item,
 ) -> Result<Walked, CheckRefusal>
     requires { IsSoundKnown (known_of known) }
-    ensures gives { Shows (λ next. (known_of next, next.met)) (item_walk entries.now (known_of known) item.now known.met) result }
+    ensures gives { ChecksAs walked_of (item_walk entries.now (known_of known) item.now known.met) result }
     ensures sound { IfOk result (λ next. IsSoundKnown (known_of next)) }
 {
     match item {
@@ -164,9 +159,9 @@ fn item(
 }
 
 /// The items, one after the other.
-#[tactic(auto, using(crate::proofs::Heads::item_next, crate::proofs::Heads::no_item, crate::proofs::Heads::nothing_sound))]
+#[tactic(auto, using(crate::proofs::Items::item_next, crate::proofs::Items::no_item, crate::proofs::Items::nothing_sound))]
 fn items(alloc: Global, program: &[Item], entries: &Entries) -> Result<Walked, CheckRefusal>
-    ensures { Shows (λ known. (known_of known, known.met)) (items_walk entries.now (record { aliases = []; functions = [] }) program.now []) result }
+    ensures { ChecksAs walked_of (items_walk entries.now nothing_known program.now []) result }
 {
     let mut known = Walked {
         aliases: Aliases::new(alloc),
@@ -196,7 +191,7 @@ pub fn check(
 ) -> Result<TypedProgram, CheckRefusal>
     requires edition { edition ≡ 1 }
     requires entries { AreValued params.now }
-    ensures answers { Answers (checked program.now asked.now params.now end) result }
+    ensures answers { Checks (checked program.now asked.now params.now end) result }
     ensures broken { TellsBroken (Breaks program.now asked.now params.now end) result }
 {
     let _ = edition;

@@ -1,9 +1,10 @@
 ghost use Rattle.std.specs.Prelude.{◌≡◌, map};
 ghost use Rattle.std.specs.List.{list_all};
 ghost use Rattle.hl_meaning.specs.Values.{is_sound};
-ghost use Rattle.simplicityhl.specs.Kinds.{is_bound, is_width};
+ghost use Rattle.simplicityhl.specs.Kinds.{is_width};
 
 use hl_syntax::{HlType, HlTypes};
+use hl_types::is_list_bound;
 
 /// Whether a type has the widths, counts and bounds that types have.
 #[cycle(sound)]
@@ -39,28 +40,4 @@ fn is_word_width(width: u16) -> bool
     ensures { result ≡ is_width width }
 {
     matches!(width, 1 | 2 | 4 | 8 | 16 | 32 | 64 | 128 | 256)
-}
-
-/// Whether lists have this bound.
-fn is_list_bound(bound: u32) -> bool
-    ensures { result ≡ is_bound bound }
-{
-    matches!(
-        bound,
-        2 | 4
-            | 8
-            | 16
-            | 32
-            | 64
-            | 128
-            | 256
-            | 512
-            | 1024
-            | 2048
-            | 4096
-            | 8192
-            | 16_384
-            | 32_768
-            | 65_536
-    )
 }

@@ -1,5 +1,4 @@
 mod Ones
 mod Readings
-mod Tuples
 mod Turning
 mod Typing

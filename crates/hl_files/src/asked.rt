@@ -8,10 +8,10 @@ ghost use Rattle.hl_files.specs.Turns.{Always, InTurn};
 
 use crate::object::{ObjectRefusal, read_object};
 use crate::refusal::WantedRefusal;
-use crate::same::same_type;
 use crate::texts::{EntryRefusal, Typed, type_and_text};
 use hl_data::{Entries, Entry};
 use hl_syntax::{TypedName, Wanted};
+use hl_types::same_type;
 use hl_values::{ValueRefusal, read_value};
 use serde_json::Value;
 use std::alloc::Global;

@@ -12,7 +12,6 @@ mod named;
 mod object;
 mod params;
 mod refusal;
-mod same;
 #[cfg(test)]
 mod tests;
 mod texts;

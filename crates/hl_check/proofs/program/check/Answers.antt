@@ -5,7 +5,7 @@ use Rattle.hl_data.specs.declared.typed.TypedFunction.{TypedFunction}
 use Rattle.hl_rules.specs.Declared.{has_function}
 use Rattle.hl_rules.specs.Programs.{Checked, items_walk}
 use Rattle.hl_rules.specs.Steps.{needs}
-use Rattle.hl_check.specs.Gives.{Answers, Shows}
+use Rattle.hl_scope.specs.Checks.{Checks, ChecksAs}
 use Rattle.hl_check.specs.Knowns.{known_of}
 use Rattle.hl_check.specs.declared.program.Walked.{Walked}
 use Rattle.hl_check.proofs.Whole.{asked_refused, program_found, program_refused, told_broken}
@@ -14,13 +14,13 @@ use Rattle.hl_check.proofs.program.check.Goals as goal
 pub returns-in_err-known : goal.returns-in_err-known
 returns-in_err-known c =
     let answers = program_refused c.args.program.now c.args.asked.now c.args.params.now c.args.end (λ (found : Checked). found) c.in_err-known.field-0.0 c.from_residual.result
-    (λ (known : Walked). (known_of known, known.met)) (subst (λ (xs : List Item). Shows (λ (known : Walked). (known_of known, known.met)) (items_walk c.args.params.now (record { aliases = []; functions = [] }) xs []) (Err c.in_err-known.field-0.0)) c.as_slice.ensures c.in_err-known.ensures) c.from_residual.ensures.1 in
+    (λ (known : Walked). (known_of known, known.met)) (subst (λ (xs : List Item). ChecksAs (λ (known : Walked). (known_of known, known.met)) (items_walk c.args.params.now (record { aliases = []; functions = [] }) xs []) (Err c.in_err-known.field-0.0)) c.as_slice.ensures c.in_err-known.ensures) c.from_residual.ensures.1 in
     record { answers = answers; broken = told_broken c.args.program.now c.args.asked.now c.args.params.now c.args.end c.from_residual.result answers }
 
 pub returns-in_err-needs : goal.returns-in_err-needs
 returns-in_err-needs c =
     let answers = asked_refused c.args.program.now c.args.asked.now c.args.params.now c.args.end (λ (found : Checked). found) c.in_err-needs.field-0.0 c.from_residual-in_err-needs.result
-    c.in_ok-known.known.aliases c.in_ok-known.known.functions c.in_ok-known.known.met (rw c.as_slice.ensures at c.in_ok-known.ensures) (subst (λ (holds : Bool). Answers (needs holds K20 (record { start = c.args.end; end = c.args.end })) (Err c.in_err-needs.field-0.0)) (c.has_function.ensures ∙ ap (λ (functions : List TypedFunction). has_function functions c.args.asked.now) c.as_slice-2.ensures) c.in_err-needs.ensures) c.from_residual-in_err-needs.ensures.1 in
+    c.in_ok-known.known.aliases c.in_ok-known.known.functions c.in_ok-known.known.met (rw c.as_slice.ensures at c.in_ok-known.ensures) (subst (λ (holds : Bool). Checks (needs holds K20 (record { start = c.args.end; end = c.args.end })) (Err c.in_err-needs.field-0.0)) (c.has_function.ensures ∙ ap (λ (functions : List TypedFunction). has_function functions c.args.asked.now) c.as_slice-2.ensures) c.in_err-needs.ensures) c.from_residual-in_err-needs.ensures.1 in
     record { answers = answers; broken = told_broken c.args.program.now c.args.asked.now c.args.params.now c.args.end c.from_residual-in_err-needs.result answers }
 
 pub returns-clause-answers : goal.returns-clause-answers

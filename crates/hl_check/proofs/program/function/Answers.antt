@@ -6,7 +6,7 @@ use Rattle.simplicityhl.specs.Written.{Broken}
 use Rattle.hl_rules.specs.Declared.{head_walk}
 use Rattle.hl_rules.specs.Exprs.{expr_walk}
 use Rattle.hl_rules.specs.Places.{is_main}
-use Rattle.hl_check.specs.Heads.{head_of}
+use Rattle.hl_scope.specs.Heads.{head_of}
 use Rattle.hl_check.specs.Knowns.{known_of}
 use Rattle.hl_check.proofs.Whole.{bound_all, function_found, function_refused}
 use Rattle.hl_check.proofs.program.function.Goals as goal

@@ -6,7 +6,7 @@ use Rattle.hl_check.proofs.inner.Inner.matched.Goals as goal
 pub returns-clause-gives : goal.returns-clause-gives
 returns-clause-gives g c =
     let k = c.args.self.now.checker.now in
-    match_found k.aliases (expr_walk k c.args.e.now) (record { side = c.args.one.now.side; body = expr_walk k c.args.one.now.body }) (record { side = c.args.two.now.side; body = expr_walk k c.args.two.now.body }) c.args.span c.args.body.now.scope c.args.expected.now c.args.rule
+    match_found k.aliases (expr_walk k c.args.e.now) (record { side = c.args.one.now.side; body = expr_walk k c.args.one.now.body }) (record { side = c.args.two.now.side; body = expr_walk k c.args.two.now.body }) c.args.asked.span c.args.body.now.scope c.args.asked.expected.now c.args.asked.rule
     c.in_ok-first.first c.in_ok-second.second c.in_ok-first.first_bound c.in_ok-second.second_bound c.in_ok-value.value c.in_ok-first_body.first_body c.in_ok-second_body.second_body
     c.args.body.now.met c.part.new.body.met c.arm.new.body.met c.arm-2.new.body.met
     (rw c.are_sides.ensures at c.in_ok-needs.ensures)

@@ -1,21 +1,12 @@
--- Parameters and items one after the other.
+-- Items one after the other.
 use Rattle.std.proofs.Common.{◌≡◌, ℕ, ◌+◌, ◌<◌, ◌≤◌, List, length, drop, get_or, refl, Ok, [], arith}
 use Rattle.hl_syntax.specs.declared.kinds.TypedName.{TypedName}
-use Rattle.hl_syntax.specs.declared.tree.Param.{Param}
 use Rattle.simplicityhl.specs.Written.{then_walk}
 use Rattle.hl_syntax.specs.declared.tree.Item.{Item}
 use Rattle.hl_data.specs.declared.value.Entry.{Entry}
 use Rattle.hl_rules.specs.Programs.{Known, item_walk, items_walk}
 use Rattle.hl_check.specs.Knowns.{IsSoundKnown}
-use Rattle.hl_rules.specs.Declared.{param_walk, params_walk}
-use Rattle.hl_check.proofs.Drops.{drop_item, drop_past}
-
-pub param_next : (aliases : List TypedName) (params : List Param) (i : ℕ) (param : Param) (met : List TypedName) → i < length params → param ≡ get_or params i param →
-    params_walk aliases (drop i params) met ≡ then_walk (param_walk aliases param met) (λ more. params_walk aliases (drop (i + 1) params) more)
-param_next aliases params i param met less is = let e = drop_item params i param less is in rw e refl
-
-pub no_param : (aliases : List TypedName) (params : List Param) (i : ℕ) (met : List TypedName) → length params ≤ i → params_walk aliases (drop i params) met ≡ Ok met
-no_param aliases params i met past = let e = drop_past i params past in rw e refl
+use Rattle.hl_types.proofs.Drops.{drop_item, drop_past}
 
 pub item_next : (entries : List Entry) (known : Known) (items : List Item) (i : ℕ) (item : Item) (met : List TypedName) → i < length items → item ≡ get_or items i item →
     items_walk entries known (drop i items) met ≡ then_walk (item_walk entries known item met) (λ next. items_walk entries next.0 (drop (i + 1) items) next.1)

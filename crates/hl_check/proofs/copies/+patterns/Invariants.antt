@@ -1,5 +1,0 @@
-use Rattle.std.proofs.Common.{◌≡◌, take}
-use Rattle.hl_check.proofs.copies.+patterns.Given as goal
-
-abbrev pub invariant-copy_patterns-patterns : goal.invariant-copy_patterns-patterns
-invariant-copy_patterns-patterns l = l.copies ≡ take l.pattern-index l.patterns

@@ -1,9 +1,0 @@
-use crate::scope::Scope;
-use hl_syntax::Wanted;
-
-/// The variables in scope at a place of a body, and the witnesses that were met before it.
-#[derive(Drop)]
-pub(crate) struct Body {
-    pub(crate) scope: Scope,
-    pub(crate) met: Wanted,
-}
