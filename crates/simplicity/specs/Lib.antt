@@ -6,10 +6,12 @@ pub mod Terms
 pub mod Nodes
 pub mod Carried
 pub mod Order
+pub mod Places
 pub mod Typing
 pub mod Shared
 pub mod Spelling
 pub mod Accepted
+pub mod Light
 pub mod Roots
 pub mod Machine
 pub mod Visits
