@@ -18,4 +18,10 @@ pub mod Visits
 pub mod Pruning
 pub mod Canon
 pub mod Bounds
+pub mod Arrows
+pub mod Makes
+pub mod Flowed
+pub mod Digits
+pub mod Loops
 pub mod Laws
+pub mod TermLaws
