@@ -1,4 +1,5 @@
 pub mod Types
+pub mod Limits
 pub mod Widths
 pub mod Tuples
 pub mod Cells
@@ -12,6 +13,7 @@ pub mod Spelling
 pub mod Accepted
 pub mod Roots
 pub mod Machine
+pub mod Steps
 pub mod Visits
 pub mod Pruning
 pub mod Canon
