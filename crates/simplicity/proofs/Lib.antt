@@ -21,3 +21,4 @@ pub mod Bits
 pub mod Tuples
 pub mod Spell
 mod More
+pub mod Listed
