@@ -1,1 +1,2 @@
 mod MachineRows
+mod Called

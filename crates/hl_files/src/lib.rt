@@ -13,8 +13,6 @@ mod object;
 mod params;
 mod refusal;
 mod same;
-#[cfg(test)]
-mod tests;
 mod texts;
 
 pub use asked::read_wanted;

@@ -58,6 +58,3 @@ fn refusal(fault: Fault, span: Span) -> LexRefusal
         Fault::LiteralTooLarge => LexRefusal::LiteralTooLarge { span },
     }
 }
-
-#[cfg(test)]
-mod tests;

@@ -7,8 +7,6 @@ mod forms;
 mod kinds;
 mod names;
 mod refusal;
-#[cfg(test)]
-mod tests;
 mod written;
 
 pub use copies::copy_type;

@@ -21,3 +21,8 @@ pub mod Bits
 pub mod Tuples
 pub mod Spell
 mod More
+pub mod Arrows
+pub mod Flowed
+pub mod Digits
+pub mod Loops
+mod RowTerms

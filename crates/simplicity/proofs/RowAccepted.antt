@@ -41,7 +41,7 @@ accepted : (bytes : List ℕ) (root : Arrow) (ns : List Node) (ts : Typing) → 
 accepted bytes root ns ts spelled few ordered least apart light none = record {
   spelled = spelled;
   few = few;
-  canonical = record { ordered = ordered; least = least; shared = shared_by mark_with ns ts apart };
+  canonical = record { placed = spelled.placed; ordered = ordered; least = least; shared = shared_by mark_with ns ts apart };
   light = light_by most_weight ts light;
   values = record { typed = rw none tt; padded = record { zeros = 0; few = omega arith; same = refl } };
 }

@@ -3,8 +3,6 @@
 
 mod shape;
 mod table;
-#[cfg(test)]
-mod tests;
 mod tree;
 
 pub use shape::{Shape, TypeId};

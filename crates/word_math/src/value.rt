@@ -207,24 +207,3 @@ fn widest_word(value: &CoreValue) -> Option<Word>
         CoreValue::Right(_) => None,
     }
 }
-
-#[cfg(test)]
-mod tests {
-    use super::*;
-    use std::test::Fail;
-
-    #[test]
-    fn words_come_back_from_their_values(rt: HostRuntime) -> Result<(), Fail> {
-        let byte = Word::new(8, 0, 200);
-        let wide = Word::new(256, 1, 7);
-        for word in [byte, wide] {
-            if let Some(word) = word {
-                let value = word.to_value(rt.alloc())?;
-                assert!(rt; Word::from_value(&value) == Some(word));
-                assert!(rt; word.bit(0) == (word.width() == 8));
-            }
-        }
-        assert!(rt; Word::from_value(&CoreValue::Unit).is_none());
-        Ok(())
-    }
-}
