@@ -2,7 +2,7 @@
 use Rattle.std.specs.Prelude.{List}
 use Rattle.simplicity.specs.Nodes.{Node}
 use Rattle.simplicity.specs.Typing.{Typing, IsTyping, IsLight}
-use Rattle.simplicity.specs.Accepted.{most_weight}
+use Rattle.simplicity.specs.Limits.{most_weight}
 
 -- the typing is one of the list, and none of its types weighs more than the limit
 abbrev pub IsLightTyping : List Node → Typing → Type 0
