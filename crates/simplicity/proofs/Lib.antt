@@ -11,7 +11,7 @@ pub mod Inversion
 pub mod Typings
 pub mod Below
 mod RowTypings
-mod Sharing
+pub mod Sharing
 mod RowAccepted
 pub mod Values
 pub mod Meaning
