@@ -8,4 +8,4 @@ mod tests;
 mod tree;
 
 pub use shape::{Shape, TypeId};
-pub use table::TypeTable;
+pub use table::{MOST_WEIGHT, TypeTable};

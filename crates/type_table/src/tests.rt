@@ -1,4 +1,4 @@
-use crate::table::TypeTable;
+use crate::table::{MOST_WEIGHT, TypeTable};
 use core_data::{CoreValue, has_type};
 use std::test::Fail;
 
@@ -11,7 +11,7 @@ fn numbers_types(rt: HostRuntime) -> Result<(), Fail> {
     let kind = types.product(bit, unit)?;
     assert_eq!(rt; types.word(1)?, bit);
     assert_eq!(rt; types.size(kind), 1);
-    assert!(rt; types.weight(kind) <= 4_194_304);
+    assert!(rt; types.weight(kind) <= MOST_WEIGHT);
     let tree = types.tree(rt.alloc(), kind)?;
     let one = Box::new(rt.alloc(), CoreValue::Unit)?;
     let bit = Box::new(rt.alloc(), CoreValue::Right(one))?;
