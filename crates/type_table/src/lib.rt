@@ -6,4 +6,4 @@ mod table;
 mod tree;
 
 pub use shape::{Shape, TypeId};
-pub use table::TypeTable;
+pub use table::{MOST_WEIGHT, TypeTable};

@@ -1,5 +1,6 @@
 ghost use Rattle.std.specs.Prelude.{◌≡◌, [], ◌∷◌, ◌++◌, ◌+◌, ◌*◌, ◌<◌, ◌≤◌, length, Some, IfOk, IsSome};
 ghost use Rattle.core_data.specs.Data.{kind_of};
+ghost use Rattle.simplicity.specs.Limits.{most_weight};
 ghost use Rattle.simplicity.specs.Types.{weight};
 ghost use Rattle.type_table.specs.Kinds.{kind_at};
 ghost use Rattle.type_table.specs.Steps.{stack_of, after_step, after_steps, load, step_load};
@@ -25,7 +26,7 @@ impl TypeTable {
     /// The tree of a type. The walk keeps a list of what is left to do, so a deep tree takes no stack.
     pub fn tree(&self, alloc: Global, id: TypeId) -> Result<CoreType, AllocError>
         requires there { id < length self.now }
-        requires light { weight (kind_at self.now id) ≤ 4_194_304 }
+        requires light { weight (kind_at self.now id) ≤ most_weight }
         ensures { IfOk result (λ tree. kind_of tree ≡ kind_at self.now id) }
     {
         let mut steps = Vec::new(alloc);
