@@ -67,3 +67,16 @@ core_side _ = OnNeither
 
 abbrev pub core_sides : Sides Value
 core_sides = record { side = core_side; left = Inl; right = Inr }
+
+-- the loops at these values
+abbrev pub core_folded : (Value → Value → Answer) → List Value → Value → Answer
+core_folded f = folded core_answering f
+
+abbrev pub core_go_on : (Value → Answer) → Value → Answer
+core_go_on next v = go_on core_answering core_sides next (core_side v)
+
+abbrev pub core_counted : (ℕ → Value → Answer) → (turns counter : ℕ) → Value → Answer
+core_counted f = counted core_answering core_sides f
+
+abbrev pub core_ran : (ℕ → Value → Answer) → (more counter : ℕ) → Value → Answer
+core_ran f = ran core_answering core_sides f

@@ -9,7 +9,7 @@ use Rattle.simplicity.specs.Arrows.{source, target, IsTypedTerm, AreWitnesses}
 use Rattle.simplicity.specs.Makes.{comp, pair, on_first, on_second, to_left, to_right, by_tag, only_left, only_right, iden, unit, fail, word, witness}
 use Rattle.simplicity.specs.Flowed.{flowed, leads_to, StartsFrom}
 use Rattle.simplicity.specs.Digits.{Digits, number, tree}
-use Rattle.simplicity.specs.Loops.{folded, go_on, counted, ran, core_answering, core_side, core_sides}
+use Rattle.simplicity.specs.Loops.{core_folded, core_go_on, core_counted, core_ran}
 
 -- more than one are the tuple of the first half, rounded down, beside the tuple of the rest; a tuple of values is of the tuple of their types
 pub record TuplesHalve : Type 0 where
@@ -60,9 +60,6 @@ pub record WordsAreDigits : Type 0 where
 -- in the core language a fold over two lists is one fold after the other, a run of turns one run after the other,
 -- and a loop with a counter is a run whose last Right is the loop's
 pub record LoopsJoin : Type 0 where
-  pub folds : (f : Value → Value → Answer) (us vs : List Value) (a : Value) →
-      folded core_answering f (us ++ vs) a ≡ and_then (folded core_answering f us a) (folded core_answering f vs)
-  pub runs : (f : ℕ → Value → Answer) (t u n : ℕ) (a : Value) → ran core_answering core_sides f (t + suc u) n a
-      ≡ and_then (ran core_answering core_sides f t n a) (λ v. go_on core_answering core_sides (ran core_answering core_sides f u (n + suc t)) (core_side v))
-  pub counts : (f : ℕ → Value → Answer) (more n : ℕ) (a : Value) → counted core_answering core_sides f (suc more) n a
-      ≡ and_then (ran core_answering core_sides f more n a) (λ v. go_on core_answering core_sides (λ b. Some (Inr b)) (core_side v))
+  pub folds : (f : Value → Value → Answer) (us vs : List Value) (a : Value) → core_folded f (us ++ vs) a ≡ and_then (core_folded f us a) (core_folded f vs)
+  pub runs : (f : ℕ → Value → Answer) (t u n : ℕ) (a : Value) → core_ran f (t + suc u) n a ≡ and_then (core_ran f t n a) (core_go_on (core_ran f u (n + suc t)))
+  pub counts : (f : ℕ → Value → Answer) (more n : ℕ) (a : Value) → core_counted f (suc more) n a ≡ and_then (core_ran f more n a) (core_go_on (λ b. Some (Inr b)))
