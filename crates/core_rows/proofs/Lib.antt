@@ -1,2 +1,3 @@
 mod MachineRows
 mod Called
+mod RunRows

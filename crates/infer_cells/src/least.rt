@@ -34,10 +34,13 @@ pub fn infer(
     requires rooted { HasRoot nodes.now }
     requires source { source < length types.old }
     requires target { target < length types.old }
-    ensures least { IfOk result (λ typing. IsLeast nodes.now (arrow_between types.old source target) (typing_in types.new typing)) }
+    ensures least { IfOk result (λ typing.
+        IsLeast nodes.now (arrow_between types.old source target) (typing_in types.new typing)) }
     ensures light { IfOk result (λ typing. IsLight most_weight (typing_in types.new typing)) }
     ensures there { IfOk result (λ typing. AreBelowBound (length types.new) typing) }
-    ensures refused { IfErr result (λ e. Refuses e (HasNoTyping nodes.now (arrow_between types.old source target)) (LeastIsHeavy nodes.now (arrow_between types.old source target))) }
+    ensures refused { IfErr result (λ e. Refuses e
+        (HasNoTyping nodes.now (arrow_between types.old source target))
+        (LeastIsHeavy nodes.now (arrow_between types.old source target))) }
     ensures grown { IsGrown types.old types.new }
 {
     let typing = match least_typing(alloc, nodes, source, target, types) {
@@ -63,9 +66,11 @@ fn least_typing(
     requires rooted { HasRoot nodes.now }
     requires source { source < length types.old }
     requires target { target < length types.old }
-    ensures least { IfOk result (λ typing. IsLeast nodes.now (arrow_between types.old source target) (typing_in types.new typing)) }
+    ensures least { IfOk result (λ typing.
+        IsLeast nodes.now (arrow_between types.old source target) (typing_in types.new typing)) }
     ensures there { IfOk result (λ typing. AreBelowBound (length types.new) typing) }
-    ensures none { IfErr result (λ e. OnNoTyping e (HasNoTyping nodes.now (arrow_between types.old source target))) }
+    ensures none { IfErr result (λ e.
+        OnNoTyping e (HasNoTyping nodes.now (arrow_between types.old source target))) }
     ensures grown { IsGrown types.old types.new }
 {
     let constraints = match constrain(alloc, nodes, source, target, types) {

@@ -1,8 +1,8 @@
 pub mod Naturals
 pub mod Carries
-mod Rows
+pub mod Rows
 mod RowBits
-mod RowRuns
+pub mod RowRuns
 mod RowRoots
 mod RowRefusals
 mod RowWitness
@@ -26,3 +26,4 @@ pub mod Flowed
 pub mod Digits
 pub mod Loops
 mod RowTerms
+pub mod Listed

@@ -1,4 +1,5 @@
 pub mod Types
+pub mod Limits
 pub mod Widths
 pub mod Tuples
 pub mod Cells
@@ -14,6 +15,7 @@ pub mod Accepted
 pub mod Light
 pub mod Roots
 pub mod Machine
+pub mod Steps
 pub mod Visits
 pub mod Pruning
 pub mod Canon

@@ -6,7 +6,7 @@ ghost use Rattle.jets.specs.Unsigned.{is_width, Unsigned, IsUnsigned};
 use std::marker::Model;
 
 /// A number with its width in bits, which is one of 1 to 256 by doubling.
-#[derive(Clone, Copy, Debug, PartialEq, Eq)]
+#[derive(Clone, Copy, Debug, PartialEq, Eq, Hash)]
 pub struct Word {
     width: u16,
     high: u128,

@@ -1,0 +1,16 @@
+pub mod Every
+pub mod Once
+pub mod Steps
+pub mod Same
+pub mod Shapes
+pub mod Sound
+pub mod Widths
+pub mod Patterns
+pub mod Claims
+pub mod Called
+pub mod Jets
+pub mod Leaves
+pub mod Many
+pub mod Blocks
+pub mod Bodies
+pub mod Programs
