@@ -3,7 +3,7 @@
 use core_data::{CoreValue, has_type};
 use std::test::Fail;
 use term_core::{ListNode, Node, NodeList, TermTable};
-use type_table::TypeTable;
+use type_table::{MOST_WEIGHT, TypeTable};
 
 #[test]
 fn numbers_nodes(rt: HostRuntime) -> Result<(), Fail> {
@@ -41,7 +41,7 @@ fn numbers_types(rt: HostRuntime) -> Result<(), Fail> {
     let kind = types.product(bit, unit)?;
     assert_eq!(rt; types.word(1)?, bit);
     assert_eq!(rt; types.size(kind), 1);
-    assert!(rt; types.weight(kind) <= 4_194_304);
+    assert!(rt; types.weight(kind) <= MOST_WEIGHT);
     let tree = types.tree(rt.alloc(), kind)?;
     let one = Box::new(rt.alloc(), CoreValue::Unit)?;
     let bit = Box::new(rt.alloc(), CoreValue::Right(one))?;

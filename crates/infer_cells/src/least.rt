@@ -1,7 +1,7 @@
 //! The least typing of a list.
 
 ghost use Rattle.std.specs.Prelude.{◌≡◌, ◌<◌, ◌≤◌, ◌^◌, true, false, length, IfOk, IfErr};
-ghost use Rattle.simplicity.specs.Accepted.{most_weight};
+ghost use Rattle.simplicity.specs.Limits.{most_weight};
 ghost use Rattle.simplicity.specs.Nodes.{HasRoot};
 ghost use Rattle.simplicity.specs.Typing.{HasNoTyping, IsLeast, IsLight, IsEntryLight};
 ghost use Rattle.type_table.specs.Kinds.{IsGrown};
