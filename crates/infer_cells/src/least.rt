@@ -1,6 +1,7 @@
 //! The least typing of a list.
 
 ghost use Rattle.std.specs.Prelude.{◌≡◌, ◌<◌, ◌≤◌, ◌^◌, true, false, length, IfOk, IfErr};
+ghost use Rattle.simplicity.specs.Light.{IsLightTyping};
 ghost use Rattle.simplicity.specs.Limits.{most_weight};
 ghost use Rattle.simplicity.specs.Nodes.{HasRoot};
 ghost use Rattle.simplicity.specs.Typing.{HasNoTyping, IsLeast, IsLight, IsEntryLight};
@@ -36,7 +37,7 @@ pub fn infer(
     requires target { target < length types.old }
     ensures least { IfOk result (λ typing.
         IsLeast nodes.now (arrow_between types.old source target) (typing_in types.new typing)) }
-    ensures light { IfOk result (λ typing. IsLight most_weight (typing_in types.new typing)) }
+    ensures light { IfOk result (λ typing. IsLightTyping nodes.now (typing_in types.new typing)) }
     ensures there { IfOk result (λ typing. AreBelowBound (length types.new) typing) }
     ensures refused { IfErr result (λ e. Refuses e
         (HasNoTyping nodes.now (arrow_between types.old source target))
