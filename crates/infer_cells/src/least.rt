@@ -1,7 +1,7 @@
 //! The least typing of a list.
 
 ghost use Rattle.std.specs.Prelude.{◌≡◌, ◌<◌, ◌≤◌, ◌^◌, true, false, length, IfOk, IfErr};
-ghost use Rattle.simplicity.specs.Accepted.{most_weight};
+ghost use Rattle.simplicity.specs.Limits.{most_weight};
 ghost use Rattle.simplicity.specs.Nodes.{HasRoot};
 ghost use Rattle.simplicity.specs.Typing.{HasNoTyping, IsLeast, IsLight, IsEntryLight};
 ghost use Rattle.type_table.specs.Kinds.{IsGrown};
@@ -18,7 +18,7 @@ use crate::typing::{NodeArrow, Typing};
 use crate::walk::type_cells;
 use std::alloc::{AllocError, Global};
 use term_core::NodeList;
-use type_table::{TypeId, TypeTable};
+use type_table::{MOST_WEIGHT, TypeId, TypeTable};
 
 /// The least typing of a list with an arrow at its root: at each node it lies at or below every other one.
 ///
@@ -127,7 +127,7 @@ fn is_entry_light(arrow: &Option<NodeArrow>, types: &TypeTable) -> bool
 {
     match arrow {
         Some(arrow) => {
-            types.weight(arrow.source) <= 4_194_304 && types.weight(arrow.target) <= 4_194_304
+            types.weight(arrow.source) <= MOST_WEIGHT && types.weight(arrow.target) <= MOST_WEIGHT
         }
         None => true,
     }
