@@ -19,7 +19,7 @@ use crate::typing::{NodeArrow, Typing};
 use crate::walk::type_cells;
 use std::alloc::{AllocError, Global};
 use term_core::NodeList;
-use type_table::{TypeId, TypeTable};
+use type_table::{MOST_WEIGHT, TypeId, TypeTable};
 
 /// The least typing of a list with an arrow at its root: at each node it lies at or below every other one.
 ///
@@ -133,7 +133,7 @@ fn is_entry_light(arrow: &Option<NodeArrow>, types: &TypeTable) -> bool
 {
     match arrow {
         Some(arrow) => {
-            types.weight(arrow.source) <= 4_194_304 && types.weight(arrow.target) <= 4_194_304
+            types.weight(arrow.source) <= MOST_WEIGHT && types.weight(arrow.target) <= MOST_WEIGHT
         }
         None => true,
     }

@@ -4,6 +4,7 @@ use Rattle.simplicity.specs.Cells.{Cell, Bit, Undefined}
 use Rattle.simplicity.specs.Terms.{Answer, meaning}
 use Rattle.simplicity.specs.Nodes.{tree_of}
 use Rattle.simplicity.specs.Typing.{Arrow}
+use Rattle.simplicity.specs.Types.{Value}
 use Rattle.simplicity.specs.Machine.{Frame, Side, Shown, Closed, Item, At, Write, Skip, Copy, Forward, Back, NewFrame, MoveFrame, DropFrame, Nop, Read, Failing, Program, State, Totals, Turn, Next, Ends, Fails, Stuck, turn, turn_on, where_held, choose, chosen, Reaches, Here, Onward, start}
 use Rattle.simplicity.specs.Steps.{StepEnds, StepFails, has_node_first, Settles, Settled, Replaced, Steps, StepsReach, NoStep, OneStep, Stepped, Went, Ended, Failed}
 use Rattle.machine_laws.specs.Laws.{StepsAreTurns, StepIsOne, StepAnswers}
@@ -187,11 +188,11 @@ stepped_by : (p : Program) (s e middle : State) → StepsReach p s middle → Se
 stepped_by p s e _ (NoStep _) q over = over q
 stepped_by p s e middle (OneStep _ u _ h r) q over = Went u h
 
-stepped_at : (p : Program) (root : Arrow) (o : Answer) (s e : State) → Reaches p s e → Closes p root o e → Stepped p s
-stepped_at p root None s e r closes =
+stepped_at : (p : Program) (root : Arrow) (v : Value) (o : Answer) (s e : State) → Reaches p s e → Closes p root v o e → Stepped p s
+stepped_at p root v None s e r closes =
     let parts = split p s e r (fails_settled p e closes) in
     stepped_by p s e parts.middle parts.steps parts.settles (λ q. Failed e (record { settles = q; fails = closes }))
-stepped_at p root (Some u) s e r closes =
+stepped_at p root v (Some u) s e r closes =
     let parts = split p s e r (ends_settled p e closes.0) in
     stepped_by p s e parts.middle parts.steps parts.settles (λ q. Ended e (record { settles = q; ends = closes.0 }))
 
@@ -199,4 +200,4 @@ pub step_answers : StepAnswers
 step_answers p root v h z q =
     let o : Answer = meaning (tree_of p.nodes) p.witness v in
     let r : Ran p root v o = ran p root v h in
-    stepped_at p root o z r.last (later p (start p v) z r.last q r.reached (stops p root o r.last r.closes)) r.closes
+    stepped_at p root v o z r.last (later p (start p v) z r.last q r.reached (stops p root v o r.last r.closes)) r.closes

@@ -66,14 +66,14 @@ pub record IsSpent (t : Totals) (b : Bounds) : Type 0 where
   pub frames : t.frames ≤ b.frames
 
 -- how a run is over: with the answer's value in the write frame, or failed where there is none
-abbrev pub Closes : Program → Arrow → Answer → State → Type 0
-Closes p a None z = turn p z ≡ Fails
-Closes p a (Some u) z = (turn p z ≡ Ends) × HoldsResult a.target u z
+abbrev pub Closes : Program → Arrow → Value → Answer → State → Type 0
+Closes p a v None z = turn p z ≡ Fails
+Closes p a v (Some u) z = (turn p z ≡ Ends) × (HoldsResult a.target u z × (z.reads ≡ frame (cells a.source v) ∷ []))
 
 pub record Over (p : Program) (a : Arrow) (v : Value) (o : Answer) : Type 0 where
   pub last : State
   pub reached : Reaches p (begin p v a) last
-  pub closes : Closes p a o last
+  pub closes : Closes p a v o last
   pub within : IsSpent last.totals (record { work = (root_bounds p).work; cells = size a.source + size a.target + (root_bounds p).cells; frames = 2 + (root_bounds p).frames; depth = (root_bounds p).depth })
 
 full : (b : Kind) (u : Value) → IsOf u b → put (cells b u) (frame (undefined (size b))) ≡ record { before = cells b u; after = [] }
@@ -90,7 +90,7 @@ over_by p a v (Some u) l =
     record {
       last = result p v a u l.totals;
       reached = l.reached;
-      closes = (refl, ap (λ (g : Frame). g ∷ []) (full a.target u l.typed));
+      closes = (refl, (ap (λ (g : Frame). g ∷ []) (full a.target u l.typed), refl));
       within = record { work = omega (arith, l.work); cells = l.cells; frames = l.frames };
     }
 
@@ -98,7 +98,7 @@ over_by p a v (Some u) l =
 pub record Ran (p : Program) (root : Arrow) (v : Value) (o : Answer) : Type 0 where
   pub last : State
   pub reached : Reaches p (start p v) last
-  pub closes : Closes p root o last
+  pub closes : Closes p root v o last
   pub within : IsSpent last.totals (bounds p.nodes p.typing)
 
 ran_by : (p : Program) (root a : Arrow) (v : Value) (o : Answer) → root_arrow p.nodes p.typing ≡ a → root ≡ a → Over p (root_arrow p.nodes p.typing) v o → Ran p root v o
@@ -106,7 +106,7 @@ ran_by p root a v o e f over =
     record {
       last = over.last;
       reached = over.reached;
-      closes = subst (λ (x : Arrow). Closes p x o over.last) (e ∙ sym f) over.closes;
+      closes = subst (λ (x : Arrow). Closes p x v o over.last) (e ∙ sym f) over.closes;
       within = record { work = over.within.work; cells = over.within.cells; frames = over.within.frames };
     }
 
@@ -121,13 +121,13 @@ ran p root v h =
     ran_by p root root v o same refl (over_by p (root_arrow p.nodes p.typing) v o (run_lands p (root_arrow p.nodes p.typing) v fit has input))
 
 -- nothing follows the last state
-pub stops : (p : Program) (a : Arrow) (o : Answer) (z : State) → Closes p a o z → (u : State) → turn p z ≡ Next u → ⊥
-stops p a None z e u g = absurd (cc)
-stops p a (Some v) z e u g = let f : turn p z ≡ Ends = e.0 in absurd (cc)
+pub stops : (p : Program) (a : Arrow) (v : Value) (o : Answer) (z : State) → Closes p a v o z → (u : State) → turn p z ≡ Next u → ⊥
+stops p a v None z e u g = absurd (cc)
+stops p a v (Some w) z e u g = let f : turn p z ≡ Ends = e.0 in absurd (cc)
 
-not_stuck : (p : Program) (a : Arrow) (o : Answer) (z : State) → Closes p a o z → turn p z ≡ Stuck → ⊥
-not_stuck p a None z e g = absurd (cc)
-not_stuck p a (Some v) z e g = let f : turn p z ≡ Ends = e.0 in absurd (cc)
+not_stuck : (p : Program) (a : Arrow) (v : Value) (o : Answer) (z : State) → Closes p a v o z → turn p z ≡ Stuck → ⊥
+not_stuck p a v None z e g = absurd (cc)
+not_stuck p a v (Some w) z e g = let f : turn p z ≡ Ends = e.0 in absurd (cc)
 
 stuck_later : (p : Program) (z e : State) → Reaches p z e → turn p z ≡ Stuck → turn p e ≡ Stuck
 stuck_later p z _ (Here _) g = g
@@ -144,15 +144,15 @@ fails_last p z e u g = absurd (cc)
 
 -- an end is the run's
 same_end : (p : Program) (root : Arrow) (v : Value) (o : Answer) (r : Ran p root v o) (z : State) → Reaches p (start p v) z → ((u : State) → turn p z ≡ Next u → ⊥) → r.last ≡ z
-same_end p root v o r z reached last = sym (last_is_one p z r.last (later p (start p v) z r.last reached r.reached (stops p root o r.last r.closes)) last)
+same_end p root v o r z reached last = sym (last_is_one p z r.last (later p (start p v) z r.last reached r.reached (stops p root v o r.last r.closes)) last)
 
-end_means : (p : Program) (root : Arrow) (v : Value) (o : Answer) → meaning (tree_of p.nodes) p.witness v ≡ o → (z : State) → Closes p root o z → turn p z ≡ Ends → MeansEnd p root v z
+end_means : (p : Program) (root : Arrow) (v : Value) (o : Answer) → meaning (tree_of p.nodes) p.witness v ≡ o → (z : State) → Closes p root v o z → turn p z ≡ Ends → MeansEnd p root v z
 end_means p root v None e z closes g = absurd (cc)
-end_means p root v (Some u) e z closes g = record { value = u; means = e; holds = closes.1 }
+end_means p root v (Some u) e z closes g = record { value = u; means = e; holds = closes.1.0; input = closes.1.1 }
 
-fail_means : (p : Program) (root : Arrow) (o : Answer) (z : State) → Closes p root o z → turn p z ≡ Fails → o ≡ None
-fail_means p root None z closes g = refl
-fail_means p root (Some u) z closes g = let f : turn p z ≡ Ends = closes.0 in absurd (cc)
+fail_means : (p : Program) (root : Arrow) (v : Value) (o : Answer) (z : State) → Closes p root v o z → turn p z ≡ Fails → o ≡ None
+fail_means p root v None z closes g = refl
+fail_means p root v (Some u) z closes g = let f : turn p z ≡ Ends = closes.0 in absurd (cc)
 
 pub runs_mean : RunsMean
 runs_mean p root v h =
@@ -160,19 +160,19 @@ runs_mean p root v h =
     let r : Ran p root v o = ran p root v h in
     record {
       ends = λ u e.
-          let closes : Closes p root (Some u) r.last = subst (λ (x : Answer). Closes p root x r.last) e r.closes in
-          record { end = r.last; ends = record { reached = r.reached; ends = closes.0 }; holds = closes.1 };
+          let closes : Closes p root v (Some u) r.last = subst (λ (x : Answer). Closes p root v x r.last) e r.closes in
+          record { end = r.last; ends = record { reached = r.reached; ends = closes.0 }; holds = closes.1.0; input = closes.1.1 };
       fails = λ e.
-          let closes : Closes p root None r.last = subst (λ (x : Answer). Closes p root x r.last) e r.closes in
+          let closes : Closes p root v None r.last = subst (λ (x : Answer). Closes p root v x r.last) e r.closes in
           record { end = r.last; fails = record { reached = r.reached; fails = closes } };
       ends_only = λ z e.
           let same : r.last ≡ z = same_end p root v o r z e.reached (ends_last p z e.ends) in
-          end_means p root v o refl z (subst (λ (x : State). Closes p root o x) same r.closes) e.ends;
+          end_means p root v o refl z (subst (λ (x : State). Closes p root v o x) same r.closes) e.ends;
       fails_only = λ z e.
           let same : r.last ≡ z = same_end p root v o r z e.reached (fails_last p z e.fails) in
-          fail_means p root o z (subst (λ (x : State). Closes p root o x) same r.closes) e.fails;
+          fail_means p root v o z (subst (λ (x : State). Closes p root v o x) same r.closes) e.fails;
       never_stuck = λ z q e.
-          not_stuck p root o r.last r.closes (stuck_later p z r.last (later p (start p v) z r.last q r.reached (stops p root o r.last r.closes)) e);
+          not_stuck p root v o r.last r.closes (stuck_later p z r.last (later p (start p v) z r.last q r.reached (stops p root v o r.last r.closes)) e);
     }
 
 start_peak : (p : Program) (root : Arrow) (v : Value) → IsInput p root v → IsPeak (start p v).reads (start p v).writes (start p v).totals
@@ -186,7 +186,7 @@ pub runs_are_bounded : RunsAreBounded
 runs_are_bounded p root v h z q =
     let o : Answer = meaning (tree_of p.nodes) p.witness v in
     let r : Ran p root v o = ran p root v h in
-    let most : AreMost z.totals r.last.totals = grows p z r.last (later p (start p v) z r.last q r.reached (stops p root o r.last r.closes)) in
+    let most : AreMost z.totals r.last.totals = grows p z r.last (later p (start p v) z r.last q r.reached (stops p root v o r.last r.closes)) in
     let begun : AreMost (start p v).totals z.totals = grows p (start p v) z q in
     let peak : IsPeak z.reads z.writes z.totals = reach_peaks p (start p v) z (start_peak p root v h) q in
     record {

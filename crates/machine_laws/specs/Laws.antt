@@ -1,30 +1,33 @@
 -- The laws of the Bit Machine: what a run does, what it costs, what is left to do in it, and its steps.
 use Rattle.std.specs.Prelude.{◌≡◌, ℕ, ◌+◌, ◌-◌, ◌≤◌, List, [], ◌∷◌, length, Some, None}
 use Rattle.simplicity.specs.Types.{Value}
+use Rattle.simplicity.specs.Cells.{cells}
 use Rattle.simplicity.specs.Nodes.{tree_of}
 use Rattle.simplicity.specs.Terms.{meaning}
 use Rattle.simplicity.specs.Typing.{Arrow}
-use Rattle.simplicity.specs.Machine.{Program, IsInput, State, Totals, Stuck, turn, Reaches, start, RunEnds, RunFails, HoldsResult, Item, At, Forward, Back, Read, Side, Shown, row_at, held}
+use Rattle.simplicity.specs.Machine.{frame, Program, IsInput, State, Totals, Stuck, turn, Reaches, start, RunEnds, RunFails, HoldsResult, Item, At, Forward, Back, Read, Side, Shown, row_at, held}
 use Rattle.simplicity.specs.Steps.{Settles, Steps, StepEnds, StepFails, StepsReach, StepRunEnds, StepRunFails, Stepped}
 use Rattle.simplicity.specs.Bounds.{Bounds, bounds}
 use Rattle.machine_laws.specs.Layers.{Layer, layer, AreNested, AreLayered, AreBefore}
 
--- the run ends with the value in its write frame
+-- the run ends with the value in its write frame, and with the frame of its input alone to read from
 pub record EndsWith (p : Program) (root : Arrow) (v u : Value) : Type 0 where
   pub end : State
   pub ends : RunEnds p v end
   pub holds : HoldsResult root.target u end
+  pub input : end.reads ≡ frame (cells root.source v) ∷ []
 
 -- the run fails
 pub record FailsSomewhere (p : Program) (v : Value) : Type 0 where
   pub end : State
   pub fails : RunFails p v end
 
--- the value of the meaning is in the write frame of this end
+-- the value of the meaning is in the write frame of this end, which has the frame of the input alone to read from
 pub record MeansEnd (p : Program) (root : Arrow) (v : Value) (z : State) : Type 0 where
   pub value : Value
   pub means : meaning (tree_of p.nodes) p.witness v ≡ Some value
   pub holds : HoldsResult root.target value z
+  pub input : z.reads ≡ frame (cells root.source v) ∷ []
 
 -- a run does what its term means
 pub record DoesMean (p : Program) (root : Arrow) (v : Value) : Type 0 where
