@@ -23,6 +23,7 @@ use Rattle.hl_syntax.specs.declared.tree.TypeForm.TheVariants as types
 use Rattle.hl_syntax.specs.declared.tree.TypeText.{TypeText}
 use Rattle.hl_data.specs.declared.value.Entry.{Entry}
 use Rattle.jets.specs.Jet.{Row}
+use Rattle.simplicity.specs.Limits.{most_weight}
 use Rattle.simplicity.specs.Types.{weight}
 use Rattle.simplicity.specs.Limits.{most_weight}
 use Rattle.simplicityhl.specs.Grammar.{is_among}
