@@ -28,6 +28,7 @@ use Rattle.hl_rules.specs.Programs.{Known, Checked, checked, checked_of, program
 use Rattle.hl_rules.specs.Same.{same_type, unit_type}
 use Rattle.hl_rules.specs.Steps.{needs}
 use Rattle.hl_rules.specs.Walks as walks
+use Rattle.hl_typed.specs.Typed.{BreaksNothing}
 use Rattle.hl_typing.specs.Erased.{Erased, FormOf}
 use Rattle.hl_typing.specs.Laws.{AnsweredIsTyped, AnsweredIsErased}
 use Rattle.hl_typing.specs.Patterns.{Once}
@@ -317,3 +318,6 @@ answered_typed source asked entries end program valued h = (checked_holds source
 
 pub answered_erased : AnsweredIsErased
 answered_erased source asked entries end program valued h = (checked_holds source asked entries end program valued h).erased
+
+pub unbroken_typed : (program : Checked) → BreaksNothing program → ProgramTyped program
+unbroken_typed program h = answered_typed h.program h.asked h.entries h.end program h.valued h.is
