@@ -1,16 +1,14 @@
 -- Where the walk of a program answers, the walk at each of its places did.
-use Rattle.std.proofs.Common.{◌≡◌, ℕ, Bool, false, List, [], ◌∷◌, ◌++◌, map, flat_map, Option, Some, Result, Ok, refl, sym, ap, ◌∙◌, subst, append_assoc, append-nil, IsTrue}
+use Rattle.std.proofs.Common.{◌≡◌, ℕ, Bool, false, List, [], ◌∷◌, ◌++◌, map, flat_map, Option, Some, Ok, refl, sym, ap, ◌∙◌, subst, append_assoc, append-nil}
 use Rattle.std.proofs.lemmas.List.{map-append}
 use Rattle.hl_data.specs.declared.typed.TypedExpr.{TypedExpr}
 use Rattle.hl_data.specs.declared.typed.TypedFunction.{TypedFunction}
-use Rattle.hl_data.specs.declared.typed.TypedSide.{TypedSide}
 use Rattle.hl_data.specs.declared.value.Entry.{Entry}
 use Rattle.hl_syntax.specs.declared.kinds.HlType.{HlType}
 use Rattle.hl_syntax.specs.declared.kinds.TypedName.{TypedName}
 use Rattle.hl_syntax.specs.declared.rules.Rule.TheVariants.{K6}
 use Rattle.hl_syntax.specs.declared.token.Mark.{Mark}
 use Rattle.hl_syntax.specs.declared.token.Span.{Span}
-use Rattle.hl_syntax.specs.declared.tree.Arm.{Arm}
 use Rattle.hl_syntax.specs.declared.tree.Expr.{Expr}
 use Rattle.hl_syntax.specs.declared.tree.ExprForm.{ExprForm}
 use Rattle.hl_syntax.specs.declared.tree.ExprForm.TheVariants as exprs
@@ -19,19 +17,19 @@ use Rattle.hl_syntax.specs.declared.tree.Item.TheVariants as items
 use Rattle.hl_syntax.specs.declared.tree.Param.{Param}
 use Rattle.hl_syntax.specs.declared.tree.Statement.TheVariants as statements
 use Rattle.hl_syntax.specs.declared.tree.TypeText.{TypeText}
-use Rattle.simplicityhl.specs.Written.{Broken, walk, then_walk}
+use Rattle.simplicityhl.specs.Written.{walk}
 use Rattle.hl_rules.specs.Before.{Signature, AreTyped, Declare, Holds, nothing, an_alias, a_function}
 use Rattle.hl_rules.specs.Declared.{Head, alias_walk, head_walk, result_walk}
 use Rattle.hl_rules.specs.Exprs.{expr_walk, side_walk, matched_type}
 use Rattle.hl_rules.specs.Occurs.{Place, Occurs, HasParts, Leaves, inside, with_scope, alone}
 use Rattle.hl_rules.specs.Occurs as occurs
-use Rattle.hl_rules.specs.Places.{Scope, is_main}
+use Rattle.hl_rules.specs.Places.{is_main}
 use Rattle.hl_rules.specs.Programs.{Known, function_walk, item_walk, items_walk}
-use Rattle.hl_rules.specs.Witnesses.{Names, expr_names, statement_names, arm_names, item_names}
-use Rattle.hl_rules.proofs.Here.{Setting, Here, context, place, signature_of}
+use Rattle.hl_rules.specs.Witnesses.{expr_names, statement_names, arm_names, item_names}
+use Rattle.hl_rules.proofs.Here.{Setting, Here, context, signature_of}
 use Rattle.hl_rules.proofs.Names.{names_of, flat_more}
 use Rattle.hl_typing.proofs.Heads.{AliasRan, alias_ran, HeadRan, head_ran, all_typed}
-use Rattle.hl_typing.proofs.Reached.{Runs, RunsHere, Ran, meets, runs_at, part_runs}
+use Rattle.hl_typing.proofs.Reached.{Runs, Ran, meets, runs_at, part_runs}
 use Rattle.hl_typing.proofs.Steps.{ran, ok_same}
 use Rattle.hl_typing.proofs.There.{step_there}
 use Rattle.hl_typing.proofs.Within.{value_runs, statement_runs, last_runs, scrutinee_runs, arm_runs}
@@ -113,9 +111,9 @@ module _ (program : List Item) (asked : List ℕ) (entries : List Entry) (end : 
       let runs = subst (λ (k : HlType). Ran s body typed k K6 d.met f.1.value) result_is (subst (λ (l : List TypedName). Ran s body l f.1.head.result K6 d.met f.1.value) typed_is f.1.runs) in
       let named = meets s body here (occurs.body name params text body span aliases (map signature_of d.functions) typed result holds are written) f.1.value runs in
       let signature_is : signature_of f.0.0 ≡ record { name = name.text; params = typed; result = result } =
-          ap (λ (x : TypedFunction × List TypedName). signature_of x.0) (sym f.1.is)
-          ∙ ap (λ (l : List TypedName). let g : Signature = record { name = name.text; params = l; result = f.1.head.result } in g) typed_is
-          ∙ ap (λ (k : HlType). let g : Signature = record { name = name.text; params = typed; result = k } in g) result_is in
+      ap (λ (x : TypedFunction × List TypedName). signature_of x.0) (sym f.1.is)
+      ∙ ap (λ (l : List TypedName). let g : Signature = record { name = name.text; params = l; result = f.1.head.result } in g) typed_is
+      ∙ ap (λ (k : HlType). let g : Signature = record { name = name.text; params = typed; result = k } in g) result_is in
       record {
         functions = d.functions ++ f.0.0 ∷ [];
         are = map-append signature_of d.functions (f.0.0 ∷ []) ∙ ap (λ (l : List Signature). l ++ signature_of f.0.0 ∷ []) d.are ∙ ap (λ (g : Signature). signatures ++ g ∷ []) signature_is;

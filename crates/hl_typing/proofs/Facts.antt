@@ -1,5 +1,5 @@
 -- Where the walk of a form answers, the form breaks no rule of its own.
-use Rattle.std.proofs.Common.{◌≡◌, ◌≢◌, ◌<◌, ◌≤◌, ◌^◌, ℕ, Bool, true, false, not, nat_lt, nat_eq, eqb-true, ltb-true, List, [], ◌∷◌, ◌++◌, length, map, option_map, Option, Some, None, Result, Ok, Err, refl, sym, ap, ◌∙◌, subst, IsTrue, arith}
+use Rattle.std.proofs.Common.{◌≡◌, ◌≢◌, ◌<◌, ◌≤◌, ◌^◌, ℕ, Bool, true, false, not, nat_lt, nat_eq, eqb-true, ltb-true, List, length, map, Option, Some, None, Result, Ok, Err, refl, sym, ap, ◌∙◌, subst, IsTrue, arith}
 use Rattle.std.specs.Prelude.{if◌then◌else◌}
 use Rattle.std.proofs.lemmas.List.{length-map}
 use Rattle.hl_data.specs.declared.typed.TypedForm.{TypedForm}
@@ -18,7 +18,6 @@ use Rattle.hl_syntax.specs.declared.tree.Expr.{Expr}
 use Rattle.hl_syntax.specs.declared.tree.ExprForm.{ExprForm}
 use Rattle.hl_syntax.specs.declared.tree.ExprForm.TheOpen.{ExprForm-F}
 use Rattle.hl_syntax.specs.declared.tree.ExprForm.TheVariants as exprs
-use Rattle.hl_syntax.specs.declared.tree.Statement.{Statement}
 use Rattle.hl_syntax.specs.declared.tree.TypeText.{TypeText}
 use Rattle.jets.specs.Jet.{Row}
 use Rattle.simplicityhl.specs.Grammar.{is_among}
@@ -29,13 +28,13 @@ use Rattle.simplicityhl.specs.Written.{Broken, breaks_limit, walk, counted, then
 use Rattle.hl_meaning.specs.Literals.{literal_value}
 use Rattle.hl_rules.specs.Before.{Signature, signature_named}
 use Rattle.hl_rules.specs.Breaks.{Calls, by_call, by_fold, by_array_fold, by_for_while, HasType, no_last, asserted, truth, falsehood, tested, variable, from_jet, from_function, Misfits, other_type, no_number, no_tuple, no_array, no_list, no_option_some, no_option_none, no_either_left, no_either_right, Counts, fold_counts, array_fold_counts, IsShapeless, no_fold, no_array_fold, no_while, are_arms}
-use Rattle.hl_rules.specs.Exprs.{expr_walk, statement_walk, statements_walk, last_walk, are_sides, param_types, jet_named, jet_arguments, jet_result, fold_shape, while_shape}
-use Rattle.hl_rules.specs.Occurs.{Place, types_of}
+use Rattle.hl_rules.specs.Exprs.{expr_walk, statement_walk, statements_walk, last_walk, param_types, jet_named, jet_arguments, jet_result, fold_shape, while_shape}
+use Rattle.hl_rules.specs.Occurs.{types_of}
 use Rattle.hl_rules.specs.Places.{variable_type, function_named, entry_named, has_name}
 use Rattle.hl_rules.specs.Same.{same_type, same_kind, unit_type, width_of, parts_of, array_of, list_of, option_of, either_of}
-use Rattle.hl_rules.specs.Walks.{needs, wants}
+use Rattle.hl_rules.specs.Walks.{wants}
 use Rattle.hl_rules.proofs.Here.{Setting, Here, context, place, rule_of, signature_of, signature_found}
-use Rattle.hl_rules.proofs.Names.{names_of, has_among}
+use Rattle.hl_rules.proofs.Names.{has_among}
 use Rattle.hl_typing.proofs.Once.{not_true}
 use Rattle.hl_typing.proofs.Reached.{opened, known}
 use Rattle.hl_typing.proofs.Same.{kinds_equal}

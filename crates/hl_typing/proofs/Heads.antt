@@ -1,6 +1,5 @@
 -- Where the walk of an alias or of a function's head answers, what its parts answered.
-use Rattle.std.proofs.Common.{◌≡◌, ℕ, suc, ◌+◌, Bool, true, false, not, List, [], ◌∷◌, ◌++◌, length, map, Option, Some, None, Result, Ok, Err, refl, sym, ap, ◌∙◌, subst, append_assoc, append-nil, length-append, arith}
-use Rattle.std.proofs.lemmas.List.{map-append}
+use Rattle.std.proofs.Common.{◌≡◌, ◌+◌, true, false, not, List, [], ◌∷◌, ◌++◌, length, map, Option, Ok, sym, ap, ◌∙◌, subst, append_assoc, append-nil, length-append, arith}
 use Rattle.hl_data.specs.declared.typed.TypedFunction.{TypedFunction}
 use Rattle.hl_syntax.specs.declared.kinds.HlType.{HlType}
 use Rattle.hl_syntax.specs.declared.kinds.TypedName.{TypedName}
@@ -8,7 +7,7 @@ use Rattle.hl_syntax.specs.declared.rules.Rule.TheVariants.{K1, K5, K21, K24}
 use Rattle.hl_syntax.specs.declared.token.Mark.{Mark}
 use Rattle.hl_syntax.specs.declared.tree.Param.{Param}
 use Rattle.hl_syntax.specs.declared.tree.TypeText.{TypeText}
-use Rattle.simplicityhl.specs.Written.{Broken, walk, then_walk}
+use Rattle.simplicityhl.specs.Written.{walk}
 use Rattle.hl_rules.specs.Before.{AreTyped, no_param, one_more}
 use Rattle.hl_rules.specs.Declared.{Head, alias_walk, head_walk, params_walk, param_walk, result_walk, has_function, may_be}
 use Rattle.hl_rules.specs.Names.{is_reserved, alias_words, function_words, variable_words}

@@ -1,17 +1,14 @@
 -- Where the walk of a program answers, the walk of each type that is written and of each pattern did.
-use Rattle.std.proofs.Common.{◌≡◌, ◌<◌, ℕ, Bool, true, false, not, nat_lt, nat_eq, List, [], ◌∷◌, ◌++◌, length, map, flat_map, Option, Some, None, Result, Ok, Err, refl, sym, ap, ◌∙◌, subst, append_assoc, append-nil, arith}
+use Rattle.std.proofs.Common.{◌≡◌, ℕ, Bool, true, false, nat_lt, nat_eq, List, [], ◌∷◌, ◌++◌, length, map, flat_map, Option, Some, Result, Ok, Err, refl, sym, ap, ◌∙◌, subst, append_assoc, append-nil, arith}
 use Rattle.std.specs.Prelude.{if◌then◌else◌}
 use Rattle.std.proofs.lemmas.List.{map-append}
 use Rattle.hl_data.specs.declared.typed.TypedForm.{TypedForm}
-use Rattle.hl_data.specs.declared.typed.TypedFunction.{TypedFunction}
 use Rattle.hl_data.specs.declared.typed.TypedSide.{TypedSide}
-use Rattle.hl_data.specs.declared.typed.TypedSide.TheVariants as typed_sides
 use Rattle.hl_data.specs.declared.value.Entry.{Entry}
 use Rattle.hl_syntax.specs.declared.kinds.HlType.{HlType}
 use Rattle.hl_syntax.specs.declared.kinds.TypedName.{TypedName}
 use Rattle.hl_syntax.specs.declared.rules.Limit.TheVariants.{L5}
 use Rattle.hl_syntax.specs.declared.rules.Rule.TheVariants.{K6, K8}
-use Rattle.hl_syntax.specs.declared.token.Mark.{Mark}
 use Rattle.hl_syntax.specs.declared.token.Span.{Span}
 use Rattle.hl_syntax.specs.declared.tree.Arm.{Arm}
 use Rattle.hl_syntax.specs.declared.tree.Expr.{Expr}
@@ -26,7 +23,6 @@ use Rattle.hl_syntax.specs.declared.tree.PatternForm.TheFolds.{fold-PatternForm,
 use Rattle.hl_syntax.specs.declared.tree.PatternForm.TheOpen.{PatternForm-F}
 use Rattle.hl_syntax.specs.declared.tree.PatternForm.TheVariants as patterns
 use Rattle.hl_syntax.specs.declared.tree.Side.{Side}
-use Rattle.hl_syntax.specs.declared.tree.Side.TheVariants as sides
 use Rattle.hl_syntax.specs.declared.tree.Statement.TheVariants as statements
 use Rattle.hl_syntax.specs.declared.tree.TypeForm.{TypeForm, roll-TypeForm}
 use Rattle.hl_syntax.specs.declared.tree.TypeForm.TheFolds.{fold-roll-TypeForm, fold_out-TypeText, map-TypeForm}
@@ -35,29 +31,28 @@ use Rattle.hl_syntax.specs.declared.tree.TypeForm.TheVariants as types
 use Rattle.hl_syntax.specs.declared.tree.TypeText.{TypeText}
 use Rattle.simplicity.specs.Types.{weight}
 use Rattle.simplicityhl.specs.Kinds as kinds
-use Rattle.simplicityhl.specs.Written.{Broken, breaks_limit, Walked, walk, walk_step, then_walk, in_turn, counted, bounded, light}
-use Rattle.hl_rules.specs.Before.{Signature, Holds}
+use Rattle.simplicityhl.specs.Written.{Broken, breaks_limit, Walked, walk, walk_step, then_walk, in_turn, light}
 use Rattle.hl_rules.specs.Breaks.{made_type}
 use Rattle.hl_rules.specs.Exprs.{side_walk, binding_walk}
-use Rattle.hl_rules.specs.Occurs.{Place, Occurs}
+use Rattle.hl_rules.specs.Occurs.{Place}
 use Rattle.hl_rules.specs.Patterns.{PatternWalk, pattern_walk, pattern_step, patterns_walk, items_walk}
-use Rattle.hl_rules.specs.Places.{Scope, is_main}
+use Rattle.hl_rules.specs.Places.{Scope}
 use Rattle.hl_rules.specs.Programs as programs
 use Rattle.hl_rules.specs.Programs.{Known}
 use Rattle.hl_rules.specs.Same.{parts_of, array_of}
 use Rattle.hl_rules.specs.Steps as steps
-use Rattle.hl_rules.specs.Witnesses.{Names, joined}
+use Rattle.hl_rules.specs.Witnesses.{Names}
 use Rattle.hl_rules.specs.Written as written
 use Rattle.hl_rules.specs.Written.{IsWritten, IsMatched, Binds, binds_left, binds_right, binds_some, pattern_names, pattern_names_step}
-use Rattle.hl_rules.proofs.Here.{Setting, Here, context, place, rule_of}
+use Rattle.hl_rules.proofs.Here.{Setting, Here}
 use Rattle.hl_rules.proofs.Names.{names_of, joined_map}
 use Rattle.hl_typing.specs.Patterns as bindings
 use Rattle.hl_typing.specs.Patterns.{Matched, PatternAt, PatternsAt}
-use Rattle.hl_typing.proofs.Everywhere.{setting, known_as, declared_ran, function_first, alias_first, occurs_runs}
+use Rattle.hl_typing.proofs.Everywhere.{setting, declared_ran, function_first, alias_first, occurs_runs}
 use Rattle.hl_typing.proofs.Heads.{params_at}
 use Rattle.hl_typing.proofs.Patterns.{pattern_binds}
 use Rattle.hl_typing.proofs.Reached.{Runs, opened}
-use Rattle.hl_typing.proofs.Steps.{ran, ok_same, needs_ok, wants_ok}
+use Rattle.hl_typing.proofs.Steps.{ran, ok_same, wants_ok}
 use Rattle.hl_typing.proofs.There.{step_there}
 use Rattle.hl_typing.proofs.Within.{Answers, block_ran, some_let, two_arms, match_ran}
 

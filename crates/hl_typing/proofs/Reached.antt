@@ -1,49 +1,43 @@
 -- Where the walk of a form answers, the walk of each of its parts did.
-use Rattle.std.proofs.Common.{◌≡◌, ℕ, Bool, true, false, nat_eq, nat_lt, eqb-true, List, [], ◌∷◌, ◌++◌, length, map, flat_map, option_map, Option, Some, None, Result, Ok, Err, refl, sym, ap, ◌∙◌, subst, append_assoc, append-nil, arith, length-append, IsTrue}
+use Rattle.std.proofs.Common.{◌≡◌, ℕ, Bool, true, false, nat_eq, nat_lt, eqb-true, List, [], ◌∷◌, ◌++◌, length, map, flat_map, Some, Result, Ok, Err, refl, sym, ap, ◌∙◌, subst, append_assoc, append-nil, arith, length-append}
 use Rattle.std.specs.Prelude.{if◌then◌else◌}
 use Rattle.std.proofs.lemmas.List.{length-map}
 use Rattle.hl_data.specs.declared.typed.TypedExpr.{TypedExpr}
 use Rattle.hl_data.specs.declared.typed.TypedForm.{TypedForm}
 use Rattle.hl_data.specs.declared.typed.TypedFunction.{TypedFunction}
-use Rattle.hl_data.specs.declared.typed.TypedSide.{TypedSide}
-use Rattle.hl_data.specs.declared.typed.TypedStatement.{TypedStatement}
 use Rattle.hl_data.specs.declared.value.Entry.{Entry}
 use Rattle.hl_syntax.specs.declared.kinds.HlType.{HlType}
 use Rattle.hl_syntax.specs.declared.kinds.HlType.TheVariants as kind
 use Rattle.hl_syntax.specs.declared.kinds.TypedName.{TypedName}
 use Rattle.hl_syntax.specs.declared.rules.Rule.{Rule}
-use Rattle.hl_syntax.specs.declared.rules.Rule.TheVariants.{K3, K6, K8, K9, K11, K12, K13, K14, K15, K22}
+use Rattle.hl_syntax.specs.declared.rules.Rule.TheVariants.{K3, K6, K8, K9, K11, K12, K14, K15, K22}
 use Rattle.hl_syntax.specs.declared.rules.Limit.TheVariants.{L4}
 use Rattle.hl_syntax.specs.declared.token.Mark.{Mark}
 use Rattle.hl_syntax.specs.declared.token.Span.{Span}
 use Rattle.hl_syntax.specs.declared.tree.Arm.{Arm}
 use Rattle.hl_syntax.specs.declared.tree.Expr.{Expr}
 use Rattle.hl_syntax.specs.declared.tree.ExprForm.{ExprForm, roll-ExprForm}
-use Rattle.hl_syntax.specs.declared.tree.ExprForm.TheFolds.{fold-Arm, fold_out-Arm, fold-roll-ExprForm, fold-roll-Statement, fold_out-Expr, map-ExprForm, map-Statement}
-use Rattle.hl_syntax.specs.declared.tree.ExprForm.TheOpen.{ExprForm-F, Statement-F}
+use Rattle.hl_syntax.specs.declared.tree.ExprForm.TheFolds.{fold-Arm, fold-roll-ExprForm, fold_out-Expr, map-ExprForm}
+use Rattle.hl_syntax.specs.declared.tree.ExprForm.TheOpen.{ExprForm-F}
 use Rattle.hl_syntax.specs.declared.tree.ExprForm.TheVariants as exprs
 use Rattle.hl_syntax.specs.declared.tree.Item.{Item}
-use Rattle.hl_syntax.specs.declared.tree.Pattern.{Pattern}
-use Rattle.hl_syntax.specs.declared.tree.Statement.{Statement, roll-Statement}
-use Rattle.hl_syntax.specs.declared.tree.Statement.TheVariants as statements
-use Rattle.hl_syntax.specs.declared.tree.TypeText.{TypeText}
+use Rattle.hl_syntax.specs.declared.tree.Statement.{Statement}
 use Rattle.simplicityhl.specs.Kinds.{form, is_bound, is_count}
 use Rattle.simplicityhl.specs.Tokens.{decimal_value}
 use Rattle.simplicityhl.specs.Written.{Broken, breaks_limit, walk, counted, then_walk}
 use Rattle.hl_rules.specs.Before.{Signature, signature_named}
-use Rattle.hl_rules.specs.Exprs.{ExprWalk, FormWalk, StatementWalk, ArmWalk, form_step, statement_step, arm_step, expr_step, expr_walk, form_walk, statement_walk, parts_walk, items_walk, statements_walk, let_walk, plain_walk, last_walk, match_walk, side_walk, are_sides, matched_type, param_types, jet_named, jet_arguments, jet_result, fold_shape, while_shape}
+use Rattle.hl_rules.specs.Exprs.{ExprWalk, FormWalk, StatementWalk, ArmWalk, form_step, statement_step, arm_step, expr_step, expr_walk, form_walk, statement_walk, parts_walk, items_walk, param_types, jet_named, jet_arguments, jet_result, fold_shape, while_shape}
 use Rattle.hl_rules.specs.Occurs.{Place, Occurs, HasParts, Leaves, no_statement, after_let, after_plain, part, inside, with_scope, alone}
 use Rattle.hl_rules.specs.Occurs as occurs
-use Rattle.hl_rules.specs.Patterns.{pattern_walk}
 use Rattle.hl_rules.specs.Places.{Scope, function_named}
 use Rattle.hl_rules.specs.Same.{same_type, same_kind, unit_type, parts_of, array_of, list_of, option_of, either_of}
-use Rattle.hl_rules.specs.Witnesses.{Names, expr_names, statement_names, arm_names, names_step, statement_names_step}
+use Rattle.hl_rules.specs.Witnesses.{Names, expr_names}
 use Rattle.hl_rules.proofs.Bodies.{expr_fine}
 use Rattle.hl_rules.proofs.Fine.{Fine}
 use Rattle.hl_rules.proofs.Here.{Setting, Here, Meets, Bad, context, place, rule_of, signature_of, signature_found}
 use Rattle.hl_rules.proofs.Names.{names_of, flat_more}
 use Rattle.hl_typing.proofs.Steps.{ran, ok_same}
-use Rattle.hl_typing.proofs.There.{wants_is, wants_there, needs_there, step_there, step_is, mapped}
+use Rattle.hl_typing.proofs.There.{wants_is, needs_there, step_there, step_is, mapped}
 
 count_by : (b : Bool) (n m : ℕ) (broken : Broken) → (if b then Ok n else Err broken) ≡ Ok m → n ≡ m
 count_by true n m broken e = ok_same e

@@ -1,12 +1,12 @@
 -- Where the walk answers a program, no rule and no limit is broken at any place of it.
-use Rattle.std.proofs.Common.{◌≡◌, ◌≢◌, ◌<◌, ℕ, Bool, true, false, not, ◌||◌, nat_lt, nat_eq, eqb-true, ltb-false, List, [], ◌∷◌, ◌++◌, length, map, bytes_eq, Option, Some, None, Result, Ok, Err, refl, sym, ap, ◌∙◌, subst, append-nil, IsTrue, arith}
+use Rattle.std.proofs.Common.{◌≡◌, ◌≢◌, ◌<◌, ℕ, Bool, true, false, not, ◌||◌, nat_eq, eqb-true, ltb-false, List, [], ◌∷◌, ◌++◌, length, map, bytes_eq, Option, Some, None, Result, Ok, Err, refl, sym, ap, ◌∙◌, subst, append-nil, IsTrue, arith}
 use Rattle.std.specs.Prelude.{if◌then◌else◌}
 use Rattle.std.proofs.lemmas.List.{length-map}
 use Rattle.hl_data.specs.declared.typed.TypedFunction.{TypedFunction}
 use Rattle.hl_data.specs.declared.value.Entry.{Entry}
 use Rattle.hl_syntax.specs.declared.kinds.HlType.{HlType}
 use Rattle.hl_syntax.specs.declared.kinds.TypedName.{TypedName}
-use Rattle.hl_syntax.specs.declared.rules.Rule.TheVariants.{K2, K5, K6, K8, K20, K24}
+use Rattle.hl_syntax.specs.declared.rules.Rule.TheVariants.{K5, K6, K8, K20, K24}
 use Rattle.hl_syntax.specs.declared.token.Mark.{Mark}
 use Rattle.hl_syntax.specs.declared.token.Span.{Span}
 use Rattle.hl_syntax.specs.declared.tree.Expr.{Expr}
@@ -27,28 +27,27 @@ use Rattle.simplicityhl.specs.Grammar.{is_among}
 use Rattle.simplicityhl.specs.Kinds as kinds
 use Rattle.simplicityhl.specs.Kinds.{is_bound}
 use Rattle.simplicityhl.specs.Tokens.{decimal_value}
-use Rattle.simplicityhl.specs.Written.{Broken, breaks_rule, walk, then_walk, counted, bounded, known, named}
+use Rattle.simplicityhl.specs.Written.{Broken, walk, counted, bounded, known, named}
 use Rattle.hl_rules.specs.Before.{Signature, Declare, Holds, has_signature, signature_named}
 use Rattle.hl_rules.specs.Breaks as breaks
 use Rattle.hl_rules.specs.Breaks.{Breaks, Misfits, HasCount, array_length, list_bound, IsShapeless, made_type}
-use Rattle.hl_rules.specs.Declared.{has_function, is_empty, may_be, result_walk}
+use Rattle.hl_rules.specs.Declared.{has_function, is_empty, result_walk}
 use Rattle.hl_rules.specs.Names.{is_reserved, alias_words, function_words, variable_words}
-use Rattle.hl_rules.specs.Occurs.{Place, Occurs, types_of}
-use Rattle.hl_rules.specs.Patterns.{pattern_walk, patterns_walk, items_walk}
+use Rattle.hl_rules.specs.Occurs.{Place, Occurs}
+use Rattle.hl_rules.specs.Patterns.{pattern_walk}
 use Rattle.hl_rules.specs.Places.{has_name, is_main, variable_type}
 use Rattle.hl_rules.specs.Programs as programs
 use Rattle.hl_rules.specs.Programs.{Known, Checked, checked, checked_of, program_walk}
 use Rattle.hl_rules.specs.Same.{same_type, unit_type, width_of, parts_of, array_of, list_of}
 use Rattle.hl_rules.specs.Steps as steps
-use Rattle.hl_rules.specs.Walks as walks
 use Rattle.hl_rules.specs.Witnesses.{Names}
 use Rattle.hl_rules.specs.Written.{IsWritten, IsMatched}
 use Rattle.hl_rules.proofs.Here.{signature_of}
 use Rattle.hl_rules.proofs.Names.{names_of, has_among}
 use Rattle.hl_typing.specs.Laws.{AnsweredIsUnbroken}
-use Rattle.hl_typing.proofs.Everywhere.{declared_ran, function_first, alias_first, occurs_runs, FunctionRan}
+use Rattle.hl_typing.proofs.Everywhere.{declared_ran, function_first, alias_first, occurs_runs}
 use Rattle.hl_typing.proofs.Facts.{count_small, count_is, not_both, no_misfit, no_k3, no_k4, no_k7, no_k8_tuple, no_k8_array, no_k9, no_k11_call, no_k11_jet, no_k12, no_k13, no_k14, no_k15, no_l4, no_k16, no_k17, no_k18, no_k19, no_k22}
-use Rattle.hl_typing.proofs.Heads.{AliasRan, HeadRan, ParamRan, param_names, params_at, params_long}
+use Rattle.hl_typing.proofs.Heads.{AliasRan, HeadRan, param_names, params_at, params_long}
 use Rattle.hl_typing.proofs.Once.{not_true}
 use Rattle.hl_typing.proofs.Parts.{whole_of, written_ran, matched_ran, type_layer, pattern_layer}
 use Rattle.hl_typing.proofs.Reached.{Runs}
@@ -196,9 +195,10 @@ module _ (program : List Item) (asked : List ℕ) (entries : List Entry) (end : 
       let t = matched_ran program asked entries end final answers (patterns.Name name) span kind before m in
       let w = pattern_layer (PatternForm-F.Name name) (patterns.Name name) (patterns.rolls-Name name) span kind t.bound t.after t.is in
       let a = ran (steps.needs (not (is_reserved variable_words name)) K24 span) _ t.after w in
-      let b = ran (steps.needs (not (has_name t.bound name)) K5 span) _ t.after a.is in
-      (not_true (is_reserved variable_words name) (needs_ok (not (is_reserved variable_words name)) K24 span a.from a.was),
-      ap (λ ns. is_among ns name) (sym t.named) ∙ sym (has_among t.bound name) ∙ not_true (has_name t.bound name) (needs_ok (not (has_name t.bound name)) K5 span b.from b.was))
+      let b = ran (steps.needs (not (has_name t.bound name)) K5 span) _ t.after a.is in (
+        not_true (is_reserved variable_words name) (needs_ok (not (is_reserved variable_words name)) K24 span a.from a.was),
+        ap (λ ns. is_among ns name) (sym t.named) ∙ sym (has_among t.bound name) ∙ not_true (has_name t.bound name) (needs_ok (not (has_name t.bound name)) K5 span b.from b.was),
+      )
 
   long_as : (parts : List Pattern) (n : ℕ) → nat_eq (length (map pattern_walk parts)) n ≡ true → length parts ≡ n
   long_as parts n h = sym (length-map parts pattern_walk) ∙ eqb-true _ _ h

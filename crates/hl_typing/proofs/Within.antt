@@ -1,5 +1,5 @@
 -- Where the walk of a block or of a match answers, the walk of each of its parts did.
-use Rattle.std.proofs.Common.{◌≡◌, true, false, List, [], ◌∷◌, ◌++◌, map, flat_map, Option, Some, None, Result, Ok, Err, refl, sym, ap, ◌∙◌, subst, append_assoc, append-nil}
+use Rattle.std.proofs.Common.{◌≡◌, true, false, List, [], ◌∷◌, ◌++◌, map, flat_map, Option, Some, None, Result, Ok, refl, sym, ap, ◌∙◌, subst, append_assoc, append-nil}
 use Rattle.hl_data.specs.declared.typed.TypedExpr.{TypedExpr}
 use Rattle.hl_data.specs.declared.typed.TypedForm.{TypedForm}
 use Rattle.hl_data.specs.declared.typed.TypedSide.{TypedSide}
@@ -11,14 +11,14 @@ use Rattle.hl_syntax.specs.declared.token.Span.{Span}
 use Rattle.hl_syntax.specs.declared.tree.Arm.{Arm}
 use Rattle.hl_syntax.specs.declared.tree.Expr.{Expr}
 use Rattle.hl_syntax.specs.declared.tree.ExprForm.{ExprForm}
-use Rattle.hl_syntax.specs.declared.tree.ExprForm.TheFolds.{fold-Arm, fold_out-Arm, fold-roll-Statement, map-Statement}
+use Rattle.hl_syntax.specs.declared.tree.ExprForm.TheFolds.{fold_out-Arm, fold-roll-Statement}
 use Rattle.hl_syntax.specs.declared.tree.ExprForm.TheOpen.{ExprForm-F, Statement-F}
 use Rattle.hl_syntax.specs.declared.tree.ExprForm.TheVariants as exprs
 use Rattle.hl_syntax.specs.declared.tree.Pattern.{Pattern}
-use Rattle.hl_syntax.specs.declared.tree.Statement.{Statement, roll-Statement}
+use Rattle.hl_syntax.specs.declared.tree.Statement.{Statement}
 use Rattle.hl_syntax.specs.declared.tree.Statement.TheVariants as statements
 use Rattle.hl_syntax.specs.declared.tree.TypeText.{TypeText}
-use Rattle.simplicityhl.specs.Written.{Broken, walk, then_walk}
+use Rattle.simplicityhl.specs.Written.{Broken, walk}
 use Rattle.hl_rules.specs.Exprs.{ExprWalk, FormWalk, StatementWalk, ArmWalk, form_step, statement_step, arm_step, expr_step, expr_walk, form_walk, statement_walk, statements_walk, let_walk, plain_walk, last_walk, match_walk, side_walk, are_sides, matched_type}
 use Rattle.hl_rules.specs.Occurs.{Place, Occurs, Leaves, no_statement, after_let, after_plain, inside, with_scope, alone}
 use Rattle.hl_rules.specs.Occurs as occurs
@@ -28,7 +28,7 @@ use Rattle.hl_rules.specs.Same.{unit_type}
 use Rattle.hl_rules.specs.Witnesses.{Names, expr_names, statement_names, arm_names, names_step, statement_names_step}
 use Rattle.hl_rules.proofs.Here.{Setting, Here, context, place, rule_of}
 use Rattle.hl_rules.proofs.Names.{names_of, flat_more}
-use Rattle.hl_typing.proofs.Reached.{Runs, RunsHere, Ran, opened, meets, runs_at, arm_walk}
+use Rattle.hl_typing.proofs.Reached.{RunsHere, Ran, opened, meets, runs_at, arm_walk}
 use Rattle.hl_typing.proofs.Steps.{ran, ok_same}
 use Rattle.hl_typing.proofs.There.{needs_there, step_there}
 
@@ -252,10 +252,10 @@ module _ (s : Setting) where
   pub match_ran : (e : Expr) (one two : Arm) (h : Here) (span : Span) (r : TypedForm × List TypedName) → Answers (exprs.Match e (one ∷ two ∷ [])) span h r → MatchRan e one two h
   match_ran e one two h span r w =
       let opens : match_walk s.aliases (expr_walk (context s) e) (arm_walk s one) (arm_walk s two) span h.scope h.expected (rule_of h.alone) h.met ≡ Ok r =
-          opened s (ExprForm-F.Match e (one ∷ two ∷ [])) (exprs.Match e (one ∷ two ∷ [])) (exprs.rolls-Match e (one ∷ two ∷ [])) span h r w in
+      opened s (ExprForm-F.Match e (one ∷ two ∷ [])) (exprs.Match e (one ∷ two ∷ [])) (exprs.rolls-Match e (one ∷ two ∷ [])) span h r w in
       let plainly : match_walk s.aliases (expr_walk (context s) e) (plain_arm one) (plain_arm two) span h.scope h.expected (rule_of h.alone) h.met ≡ Ok r =
-          sym (ap (λ (a : ArmWalk). match_walk s.aliases (expr_walk (context s) e) a (arm_walk s two) span h.scope h.expected (rule_of h.alone) h.met) (arm_is one)
-          ∙ ap (λ (a : ArmWalk). match_walk s.aliases (expr_walk (context s) e) (plain_arm one) a span h.scope h.expected (rule_of h.alone) h.met) (arm_is two)) ∙ opens in
+      sym (ap (λ (a : ArmWalk). match_walk s.aliases (expr_walk (context s) e) a (arm_walk s two) span h.scope h.expected (rule_of h.alone) h.met) (arm_is one)
+      ∙ ap (λ (a : ArmWalk). match_walk s.aliases (expr_walk (context s) e) (plain_arm one) a span h.scope h.expected (rule_of h.alone) h.met) (arm_is two)) ∙ opens in
       let a = needs_there (are_sides one.side two.side) K13 span h.met _ r plainly in
       let b = step_there (side_walk s.aliases one.side) h.met _ r a.1 in
       let c = step_there (side_walk s.aliases two.side) h.met _ r b.2 in
@@ -307,10 +307,10 @@ module _ (s : Setting) where
       let n = expr_names e in
       let value_named : names_of m.value.1 ≡ h.before ++ (n ++ []) = scrutinee_named h e first one span at m ∙ ap (λ (ns : Names). h.before ++ ns) (sym (append-nil n)) in
       let body_named = meets s first.body (record { scope = m.first.1 ++ h.scope; expected = h.expected; alone = false; before = h.before ++ (n ++ []); met = m.value.1; named = value_named })
-          (occurs.arm (place s h) e [] (one ∷ []) first span m.first.0 m.first.1 at m.first_is) m.body m.body_is in
+      (occurs.arm (place s h) e [] (one ∷ []) first span m.first.0 m.first.1 at m.first_is) m.body m.body_is in
       let named : names_of m.body.1 ≡ h.before ++ (n ++ (arm_names first ++ [])) =
-          body_named ∙ ap (λ (ns : Names). (h.before ++ ns) ++ expr_names first.body) (append-nil n) ∙ append_assoc h.before n (expr_names first.body)
-          ∙ ap (λ (ns : Names). h.before ++ (n ++ ns)) (sym (arm_named first) ∙ sym (append-nil (arm_names first))) in
+      body_named ∙ ap (λ (ns : Names). (h.before ++ ns) ++ expr_names first.body) (append-nil n) ∙ append_assoc h.before n (expr_names first.body)
+      ∙ ap (λ (ns : Names). h.before ++ (n ++ ns)) (sym (arm_named first) ∙ sym (append-nil (arm_names first))) in
       runs_at s one.body (record { scope = bound ++ h.scope; expected = h.expected; alone = false; before = h.before ++ (n ++ (arm_names first ++ [])); met = m.body.1; named = named }) m.other
       (subst (λ (x : TypedSide × Scope). Ran s one.body (x.1 ++ h.scope) h.expected K6 m.body.1 m.other) same m.other_is)
   arm_runs h e (first ∷ []) (three ∷ more) one span side bound r at is w = let t = two_arms e (first ∷ one ∷ three ∷ more) h span r w in absurd (cc)
