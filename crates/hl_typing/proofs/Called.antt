@@ -24,14 +24,14 @@ pub named_found : (fs : List TypedFunction) (name : List ℕ) (f : TypedFunction
 named_found [] name f is = absurd (cc)
 named_found (x ∷ fs) name f is = elim (bytes_eq name x.name) as
     (λ b. bytes_eq name x.name ≡ b → cond (b && not (is_main x.name)) (Some x) (function_named fs name) ≡ Some f → (cond b (Some x) (find (λ g. bytes_eq name g.name) fs) ≡ Some f) × (is_main name ≡ false)) [
-  | true ↦ λ here.
-      let same : name ≡ x.name = (bytes_eq-Decides name x.name).0 here in
-      elim (is_main x.name) as (λ m. is_main x.name ≡ m → cond (not m) (Some x) (function_named fs name) ≡ Some f → (Some x ≡ Some f) × (is_main name ≡ false)) [
-        | true ↦ λ main found. absurd (apart (is_main name) (ap is_main same ∙ main) (named_found fs name f found).1)
-        | false ↦ λ other found. (found, ap is_main same ∙ other)
-      ] refl
-  | false ↦ λ past found. named_found fs name f found
-] refl is
+      | true ↦ λ here.
+          let same : name ≡ x.name = (bytes_eq-Decides name x.name).0 here in
+          elim (is_main x.name) as (λ m. is_main x.name ≡ m → cond (not m) (Some x) (function_named fs name) ≡ Some f → (Some x ≡ Some f) × (is_main name ≡ false)) [
+            | true ↦ λ main found. absurd (apart (is_main name) (ap is_main same ∙ main) (named_found fs name f found).1)
+            | false ↦ λ other found. (found, ap is_main same ∙ other)
+          ] refl
+      | false ↦ λ past found. named_found fs name f found
+    ] refl is
 
 pub kinds_sound : (params : List TypedName) → AreSound params → Every IsSound (map (λ (p : TypedName). p.kind) params)
 kinds_sound [] h = tt

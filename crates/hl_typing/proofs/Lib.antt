@@ -14,3 +14,11 @@ pub mod Many
 pub mod Blocks
 pub mod Bodies
 pub mod Programs
+pub mod There
+pub mod Reached
+pub mod Within
+pub mod Heads
+pub mod Everywhere
+pub mod Parts
+pub mod Facts
+pub mod Unbroken

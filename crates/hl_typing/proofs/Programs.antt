@@ -28,6 +28,7 @@ use Rattle.hl_rules.specs.Programs.{Known, Checked, checked, checked_of, program
 use Rattle.hl_rules.specs.Same.{same_type, unit_type}
 use Rattle.hl_rules.specs.Steps.{needs}
 use Rattle.hl_rules.specs.Walks as walks
+use Rattle.hl_typed.specs.Typed.{BreaksNothing}
 use Rattle.hl_typing.specs.Erased.{Erased, FormOf}
 use Rattle.hl_typing.specs.Laws.{AnsweredIsTyped, AnsweredIsErased}
 use Rattle.hl_typing.specs.Patterns.{Once}
@@ -258,8 +259,8 @@ module _ (entries : List Entry) (valued : Every IsValued entries) (witnesses : L
       let c = ran (alias_walk known.aliases name text) _ b.from b.was in
       let found = alias_holds known.aliases k.aliases name text c.from c.was in
       let from_is : ◌≡◌ {A = Known × List TypedName} (with_alias known name found.0, met) a.from =
-          ap (λ (names : List TypedName). let n : Known × List TypedName = (record { aliases = names; functions = known.functions }, met) in n) found.2
-          ∙ ap (λ (p : List TypedName × List TypedName). let n : Known × List TypedName = (record { aliases = p.0; functions = known.functions }, p.1) in n) (ok_same c.is) ∙ ok_same b.is in
+      ap (λ (names : List TypedName). let n : Known × List TypedName = (record { aliases = names; functions = known.functions }, met) in n) found.2
+      ∙ ap (λ (p : List TypedName × List TypedName). let n : Known × List TypedName = (record { aliases = p.0; functions = known.functions }, p.1) in n) (ok_same c.is) ∙ ok_same b.is in
       let sound : KnownSound (with_alias known name found.0) = record {
         aliases = one_sound known.aliases (record { name = name.text; kind = found.0 }) k.aliases (walk_sound known.aliases k.aliases text found.0 found.1);
         params = k.params;
@@ -294,7 +295,7 @@ program_holds source asked entries end functions met valued h =
     let b = ran (walks.needs (has_function a.from.0.functions asked) K20 (record { start = end; end = end }) a.from.1) _ (functions, met) a.is in
     let c = ran (needs (has_function a.from.0.functions asked) K20 (record { start = end; end = end })) _ b.from b.was in
     let found_is : ◌≡◌ {A = List TypedFunction × List TypedName} (a.from.0.functions, a.from.1) (functions, met) =
-        ap (λ (p : Unit {0} × List TypedName). let n : List TypedFunction × List TypedName = (a.from.0.functions, p.1) in n) (ok_same c.is) ∙ ok_same b.is in
+    ap (λ (p : Unit {0} × List TypedName). let n : List TypedFunction × List TypedName = (a.from.0.functions, p.1) in n) (ok_same c.is) ∙ ok_same b.is in
     let good = items_good entries valued a.from.1 nothing_known (record { aliases = tt; params = tt }) source [] a.from.1 a.from.0 a.was in
     let once : Once a.from.1 = good.once tt in
     let all = found_once a.from.1 once in
@@ -317,3 +318,6 @@ answered_typed source asked entries end program valued h = (checked_holds source
 
 pub answered_erased : AnsweredIsErased
 answered_erased source asked entries end program valued h = (checked_holds source asked entries end program valued h).erased
+
+pub unbroken_typed : (program : Checked) → BreaksNothing program → ProgramTyped program
+unbroken_typed program h = answered_typed h.program h.asked h.entries h.end program h.valued h.is

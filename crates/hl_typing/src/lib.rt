@@ -1,9 +1,12 @@
 //! Typed programs have a typing of their own: rules of typing for typed trees, and the source tree
-//! that a typed tree is of, both apart from the walk that makes them. The functions below have no
-//! body, and their contracts are the laws.
+//! that a typed tree is of, both apart from the walk that makes them. The first three functions have
+//! no body, and their contracts are the laws; the last one is for who holds a typed program.
 #![tactic(auto)]
 
-ghost use Rattle.hl_typing.specs.Laws.{AnsweredIsErased, AnsweredIsTyped};
+ghost use Rattle.hl_typing.specs.Laws.{AnsweredIsErased, AnsweredIsTyped, AnsweredIsUnbroken};
+ghost use Rattle.hl_typing.specs.Programs.{ProgramTyped};
+
+use hl_typed::TypedProgram;
 
 /// What the walk answers as a program is typed by the rules.
 pub fn answered_programs_are_typed()
@@ -14,3 +17,16 @@ pub fn answered_programs_are_typed()
 pub fn answered_programs_are_the_source()
     ensures { AnsweredIsErased }
 {}
+
+/// Where the walk answers a program, nothing is broken; so it answers a rule or a limit exactly
+/// where one is broken.
+pub fn answered_programs_are_unbroken()
+    ensures { AnsweredIsUnbroken }
+{}
+
+/// A typed program is typed by the rules.
+pub fn typed_programs_are_typed(program: &TypedProgram)
+    ensures { ProgramTyped program.now }
+{
+    program.breaks_nothing();
+}
