@@ -118,3 +118,15 @@ head_ran aliases functions name params text head h =
       result_is = d.was;
       may = needs_ok (may_be name.text c.from d.from) K21 name.span e.from e.was;
     })
+
+-- what the walk of parameters finds are the types that are written
+params_typed : (aliases : List TypedName) (before params : List Param) (met r : List TypedName) → AreTyped aliases before met → params_walk aliases params met ≡ Ok r → AreTyped aliases (before ++ params) r
+params_typed aliases before [] met r are h = subst (λ (ps : List Param). AreTyped aliases ps r) (sym (append-nil before)) (subst (AreTyped aliases before) (ok_same h) are)
+params_typed aliases before (p ∷ params) met r are h =
+    let a = ran (param_walk aliases p met) (params_walk aliases params) r h in
+    let q = param_ran aliases p met a.from a.was in
+    let next : AreTyped aliases (before ++ p ∷ []) a.from = subst (AreTyped aliases (before ++ p ∷ [])) q.is (one_more before met p q.kind are q.written) in
+    subst (λ (ps : List Param). AreTyped aliases ps r) (append_assoc before (p ∷ []) params) (params_typed aliases (before ++ p ∷ []) params a.from r next a.is)
+
+pub typed_by_walk : (aliases : List TypedName) (params : List Param) (r : List TypedName) → params_walk aliases params [] ≡ Ok r → AreTyped aliases params r
+typed_by_walk aliases params r h = params_typed aliases [] params [] r no_param h

@@ -22,3 +22,4 @@ pub mod Everywhere
 pub mod Parts
 pub mod Facts
 pub mod Unbroken
+pub mod Witnesses

@@ -1,11 +1,12 @@
 -- The laws of typed programs.
-use Rattle.std.specs.Prelude.{◌≡◌, ℕ, List, [], Ok}
+use Rattle.std.specs.Prelude.{◌≡◌, ℕ, List, [], map, flat_map, Ok}
 use Rattle.hl_data.specs.declared.value.Entry.{Entry}
 use Rattle.hl_syntax.specs.declared.tree.Item.{Item}
 use Rattle.simplicityhl.specs.Written.{Broken}
 use Rattle.hl_rules.specs.Breaks.{Breaks}
 use Rattle.hl_rules.specs.Entries.{AreValued}
 use Rattle.hl_rules.specs.Programs.{Checked, checked}
+use Rattle.hl_rules.specs.Witnesses.{item_names}
 use Rattle.hl_typing.specs.Programs.{ProgramTyped, ItemsErased}
 
 -- a source text that breaks no rule and no limit, with entries of their types, is typed
@@ -25,3 +26,9 @@ abbrev pub AnsweredIsUnbroken : Type 0
 AnsweredIsUnbroken =
     (source : List Item) (asked : List ℕ) (entries : List Entry) (end : ℕ) (program : Checked) →
     checked source asked entries end ≡ Ok program → (broken : Broken) → Breaks source asked entries end broken → ⊥
+
+-- the witnesses of a program that the walk answers are those that its text names, in the text's order
+abbrev pub AnsweredNamesWitnesses : Type 0
+AnsweredNamesWitnesses =
+    (source : List Item) (asked : List ℕ) (entries : List Entry) (end : ℕ) (program : Checked) →
+    checked source asked entries end ≡ Ok program → map (λ w. w.name) program.witnesses ≡ flat_map item_names source
