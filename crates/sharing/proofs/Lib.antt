@@ -9,5 +9,7 @@ pub mod Unfolded
 pub mod Placing
 pub mod Cuts
 pub mod Pruned
+pub mod Lockstep
+pub mod CanonOne
 mod RowMerged
 mod RowCanon
