@@ -11,5 +11,3 @@ pub mod Cuts
 pub mod Pruned
 pub mod Lockstep
 pub mod CanonOne
-mod RowMerged
-mod RowCanon

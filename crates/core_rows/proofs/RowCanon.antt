@@ -17,7 +17,7 @@ use Rattle.simplicity.proofs.Inversion.{unit_meets, comp_meets}
 use Rattle.simplicity.proofs.Sharing.{shared_by, mark_with}
 use Rattle.sharing.proofs.Orderly.{position, position_there}
 use Rattle.sharing.proofs.Reordered.{merged_is_reordered}
-use Rattle.sharing.proofs.RowMerged.{at_most, same_arrow}
+use Rattle.core_rows.proofs.RowMerged.{at_most, same_arrow}
 
 abbrev shown : Kind → Kind → Option Arrow
 shown a b = Some (arrow a b)
