@@ -14,6 +14,7 @@ use Rattle.hl_syntax.specs.declared.tree.TypeForm.{TypeForm, roll-TypeForm, map-
 use Rattle.hl_syntax.specs.declared.tree.TypeText.{TypeText, roll-TypeText, map-TypeText}
 use Rattle.hl_syntax.specs.declared.tree.TypeForm.TheOpen.{TypeForm-F, TypeText-F}
 use Rattle.hl_syntax.specs.declared.tree.TypeForm.TheFolds.{fold-TypeForm, fold-roll-TypeForm, fold-roll-TypeText, ind-TypeText}
+use Rattle.simplicity.specs.Limits.{most_weight}
 use Rattle.simplicity.specs.Types.{weight}
 use Rattle.simplicityhl.specs.Kinds.{form, IsSound, sound_step, is_width, is_count, is_bound}
 use Rattle.simplicityhl.specs.Tokens.{decimal_value}
@@ -173,7 +174,7 @@ module _ (aliases : List TypedName) (sound : Every (λ (a : TypedName). IsSound 
   text_rolled y k h =
       let x : TypeText-F TypeForm TypeText = map-TypeText Forms Texts TypeForm TypeText (λ e. e.0) (λ e. e.0) y in
       let r = ran (walk_form y.form.0 y.span) (light y.span) k (sym (fold-roll-TypeText (Span → Walked) Walked (walk_step aliases) text_step x) ∙ h) in
-      let same : r.from ≡ k = if_not (nat_lt 4194304 (weight (form r.from))) r.from k _ r.is in
+      let same : r.from ≡ k = if_not (nat_lt most_weight (weight (form r.from))) r.from k _ r.is in
       subst IsSound same (y.form.1 y.span r.from r.was)
 
   pub walk_sound : (text : TypeText) (k : HlType) → walk aliases text ≡ Ok k → IsSound k
