@@ -1,5 +1,5 @@
 -- What may be answered after reads.
-use Rattle.std.proofs.Common.{◌≡◌, inl, inr, ℕ, zero, suc, ◌≤◌, List, [], length, Option, Some, None, option_map, Result, Ok, Err, IsErrAnd, refl, sym, ap, ◌∙◌, subst, arith, codes}
+use Rattle.std.proofs.Common.{◌≡◌, inl, inr, ℕ, zero, suc, ◌≤◌, List, [], length, Option, Some, None, option_map, Result, Ok, Err, IsErrAnd, refl, ap, ◌∙◌, subst, arith, codes}
 use Rattle.std.proofs.lemmas.Bool.Decides.{nat_tests}
 use Rattle.std.specs.declared.string.String.{String}
 use Rattle.std.specs.declared.vec.Vec.{Vec}
@@ -17,7 +17,7 @@ use Rattle.eval_command.proofs.One.{settled_evaluation}
 use Rattle.simphl.proofs.Small.{settled_build}
 use Rattle.simphl.specs.Answer.{Holds, HoldsAny, HasRead, IsAllowed, IsLastRead, NamesRead, outcome, raises, read_fault}
 use Rattle.simphl.specs.Answered.{IsUnread, IsDataOf, fault, refused, ReadsAny}
-use Rattle.simphl.specs.Outcome.{IsFileRead, IsDataRead, IsBuildOutcome, most_source, most_data, given, reads_after, reads_from, reads_of, not_held, too_long, whole}
+use Rattle.simphl.specs.Outcome.{IsFileRead, IsDataRead, IsBuildOutcome, most_source, most_data, given, reads_after, reads_from, not_held, too_long, whole}
 
 -- a file that holds something where it is told, or some bytes
 some_file : (held : Held) (name : List ℕ) → (file : Option (List ℕ)) × Holds held name file
