@@ -1,27 +1,14 @@
 -- What an answer of the top call says: of its outcome, of reads, of faults and of memory.
 use Rattle.std.specs.Prelude.{◌≡◌, ◌⊎◌, ℕ, zero, suc, ◌≤◌, List, [], ◌∷◌, ◌++◌, length, slice_get, Option, Some, None, IsSome}
 use Rattle.outside.specs.Counts.{raised, HasRisen}
-use Rattle.outside.specs.Files.{Held}
-use Rattle.outside.specs.Sink.{Gained, GainedFront}
+use Rattle.outside.specs.Files.{Held, StoreState}
+use Rattle.outside.specs.Sink.{SinkState, Gained, GainedFront}
 use Rattle.command_outcome.specs.declared.status.Status.{Status}
 use Rattle.command_outcome.specs.declared.status.Status.TheVariants.{Done, ReadFault, WriteFault, NoMemory}
 use Rattle.command_outcome.specs.Answer.{IsRefusal}
 use Rattle.command_outcome.specs.Texts.{read_line, no_memory_line, write_line}
 use Rattle.command_words.specs.Words.{Evaluation, Reading, BuildOf, EvalOf, Misfit}
-use Rattle.simphl.specs.Outcome.{Contents, IsOutcome}
-
--- a sink as its caller knows it: its contents, where they are told, and its count of faults
-pub record SinkState : Type 0 where
-  pub contents : Option (List ℕ)
-  pub faults : ℕ
-
--- a store of files as its caller knows it before and after a command: what it tells, its counts of faults and of reads
-pub record StoreStates : Type 0 where
-  pub held : Held
-  pub faults : ℕ
-  pub faults_after : ℕ
-  pub reads : ℕ
-  pub reads_after : ℕ
+use Rattle.simphl.specs.Outcome.{Contents, IsOutcome, reads_of}
 
 -- what a named file holds: what is told, and where nothing is told some bytes
 abbrev pub Holds : Held → List ℕ → Option (List ℕ) → Type 0
@@ -58,27 +45,28 @@ raises zero count = count
 raises (suc more) count = raised (raises more count)
 
 -- of the files that the words name so many were read, each once, the first ones
-pub record HasRead (reading : Reading) (before after : ℕ) : Type 0 where
+pub record HasRead (reading : Reading) (before after : StoreState) : Type 0 where
   pub count : ℕ
   pub within : count ≤ length (files_of reading)
-  pub are : after ≡ raises count before
+  pub are : after.reads ≡ raises count before.reads
 
 -- the file is the last that was read of those that the words name
-pub record IsLastRead (reading : Reading) (before after : ℕ) (file : List ℕ) : Type 0 where
+pub record IsLastRead (reading : Reading) (before after : StoreState) (file : List ℕ) : Type 0 where
   pub place : ℕ
   pub named : slice_get (files_of reading) place ≡ Some file
-  pub read : after ≡ raises (suc place) before
+  pub read : after.reads ≡ raises (suc place) before.reads
 
 -- a read fault names the last file that was read
-abbrev pub NamesRead : Reading → ℕ → ℕ → Status → List ℕ → Type 0
+abbrev pub NamesRead : Reading → StoreState → StoreState → Status → List ℕ → Type 0
 NamesRead reading before after ReadFault err = (file : List ℕ) × IsLastRead reading before after file × (err ≡ read_line file)
 NamesRead reading before after status err = Unit {0}
 
--- a status with its texts may be answered: they are the outcome's, or a fault of a read, or want of memory
-pub data IsAllowed (reading : Reading) (store : StoreStates) (status : Status) (out err : List ℕ) : Type 0 where
-  outcome : (files : Contents) → HoldNamed store.held reading files → IsOutcome reading files status out err → NamesRead reading store.reads store.reads_after status err → IsAllowed reading store status out err
-  read_fault : (file : List ℕ) → IsLastRead reading store.reads store.reads_after file → HasRisen store.faults store.faults_after → IsRefusal ReadFault (read_line file) status out err → IsAllowed reading store status out err
-  no_memory : IsRefusal NoMemory no_memory_line status out err → IsAllowed reading store status out err
+-- by what the store held before and by its counts after, a status with its texts may be answered: they are the outcome's, and as many
+-- files were read as it reads; or the last read failed; or memory was short
+pub data IsAllowed (reading : Reading) (before after : StoreState) (status : Status) (out err : List ℕ) : Type 0 where
+  outcome : (files : Contents) → HoldNamed before.held reading files → IsOutcome reading files status out err → after.reads ≡ raises (reads_of reading files) before.reads → NamesRead reading before after status err → IsAllowed reading before after status out err
+  read_fault : (file : List ℕ) → IsLastRead reading before after file → HasRisen before.faults after.faults → IsRefusal ReadFault (read_line file) status out err → IsAllowed reading before after status out err
+  no_memory : IsRefusal NoMemory no_memory_line status out err → IsAllowed reading before after status out err
 
 -- the sink gained this text and no fault was counted
 pub record Took (before after : SinkState) (text : List ℕ) : Type 0 where

@@ -2,7 +2,8 @@
 use Rattle.std.specs.Prelude.{◌≡◌, ◌⊎◌, ℕ, ◌≤◌, List, length, Option, Some, None, Result, Ok, Err, codes}
 use Rattle.std.specs.declared.vec.Vec.{Vec}
 use Rattle.outside.specs.Counts.{raised, HasRisen}
-use Rattle.outside.specs.Files.{Held}
+use Rattle.outside.specs.Files.{Held, StoreState}
+use Rattle.outside.specs.Sink.{SinkState}
 use Rattle.command_outcome.specs.declared.status.Status.{Status}
 use Rattle.command_outcome.specs.declared.status.Status.TheVariants.{Done, ReadFault, WriteFault}
 use Rattle.command_outcome.specs.declared.stop.Stop.{Stop}
@@ -10,7 +11,7 @@ use Rattle.command_outcome.specs.declared.stop.Stop.TheVariants.{OutOfMemory}
 use Rattle.command_outcome.specs.Answer.{Never, IsRefusal}
 use Rattle.command_outcome.specs.Stops.{Stops}
 use Rattle.command_outcome.specs.Texts.{read_line, write_line}
-use Rattle.simphl.specs.Answer.{SinkState, Holds, Took, Failed, TookOrFailed}
+use Rattle.simphl.specs.Answer.{Holds, Took, Failed, TookOrFailed}
 use Rattle.simphl.specs.Outcome.{IsFileRead, most_data}
 
 -- a file isn't read: a fault was counted, or it isn't held or is too long
@@ -30,6 +31,14 @@ IsDataOf held (Some name) faults faults_after (Ok None) = ⊥
 IsDataOf held (Some name) faults faults_after (Ok (Some bytes)) = Holds held name (Some bytes.items) × (length bytes.items ≤ most_data)
 IsDataOf held None faults faults_after (Err stop) = stop ≡ OutOfMemory
 IsDataOf held (Some name) faults faults_after (Err stop) = Stops (IsUnread held name most_data (codes "L10") faults faults_after) stop
+
+-- a file, or why it isn't read, from a store before and after
+abbrev pub IsFileFrom : {G : Type 0} → StoreState → StoreState → List ℕ → ℕ → List ℕ → Result (Vec ℕ G) Stop → Type 0
+IsFileFrom before after name most limit result = IsFileOf before.held name most limit before.faults after.faults result
+
+-- a data file, or why it isn't read, from a store before and after
+abbrev pub IsDataFrom : {G : Type 0} → StoreState → StoreState → Option (List ℕ) → Result (Option (Vec ℕ G)) Stop → Type 0
+IsDataFrom before after name result = IsDataOf before.held name before.faults after.faults result
 
 -- a named data file is one more read
 abbrev pub ReadsAny : Option (List ℕ) → ℕ → ℕ → Type 0

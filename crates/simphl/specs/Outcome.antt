@@ -1,5 +1,5 @@
 -- The outcome of a command: its status and its texts, by its words and by the files that they name.
-use Rattle.std.specs.Prelude.{◌≡◌, ℕ, ◌+◌, ◌<◌, ◌≤◌, List, length, Option, Some, None, codes}
+use Rattle.std.specs.Prelude.{◌≡◌, ℕ, suc, ◌+◌, ◌<◌, ◌≤◌, nat_le, List, length, Option, Some, None, codes, if◌then◌else◌}
 use Rattle.small_source.specs.Small.{Small, IsSmall}
 use Rattle.small_terms.specs.Result.{first_unknown}
 use Rattle.command_outcome.specs.declared.status.Status.{Status}
@@ -57,6 +57,22 @@ abbrev pub IsOutcome : Reading → Contents → Answer
 IsOutcome (Misfit index) files = IsRefusal WordsRefused (words_line index)
 IsOutcome (BuildOf file asked) files = IsFileRead file most_source (codes "L1") (IsBuildOutcome asked) files.source
 IsOutcome (EvalOf asked) files = IsEvalOutcome asked files
+
+-- how many more files are read after one that holds this: none where it is not held or longer than the limit
+abbrev pub reads_after : ℕ → Option (List ℕ) → ℕ → ℕ
+reads_after most None more = 0
+reads_after most (Some bytes) more = if nat_le (length bytes) most then more else 0
+
+-- how many files are read from a data file on, which the words may name
+abbrev pub reads_from : Option (List ℕ) → Option (List ℕ) → ℕ → ℕ
+reads_from None file more = more
+reads_from (Some name) file more = suc (reads_after most_data file more)
+
+-- how many of the files that the words name are read, the first ones
+abbrev pub reads_of : Reading → Contents → ℕ
+reads_of (Misfit index) files = 0
+reads_of (BuildOf file asked) files = 1
+reads_of (EvalOf asked) files = suc (reads_after most_source files.source (reads_from asked.args files.args (reads_from asked.witness files.witness 0)))
 
 -- there is one status, and one text on `err`
 abbrev pub OutcomeIsOne : Type 0

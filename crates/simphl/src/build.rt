@@ -33,10 +33,8 @@ enum Built {
 pub fn build_source(alloc: Global, source: &[u8], function: &str) -> Result<String, Stop>
     ensures { Gives (IsBuildOutcome function.now source.now) result }
 {
-    match read_program(alloc, source) {
-        Ok(_) => build_program(alloc, source, function.as_bytes()),
-        Err(stop) => Err(stop),
-    }
+    read_program(alloc, source)?;
+    build_program(alloc, source, function.as_bytes())
 }
 
 /// The line of a function of a source that is a program.

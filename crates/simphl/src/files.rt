@@ -3,7 +3,7 @@
 ghost use Rattle.std.specs.Prelude.{◌≡◌, ◌≤◌, option_map};
 ghost use Rattle.std.specs.Option.{option_copied};
 ghost use Rattle.outside.specs.Counts.{raised};
-ghost use Rattle.simphl.specs.Answered.{IsDataOf, IsFileOf, ReadsAny};
+ghost use Rattle.simphl.specs.Answered.{IsDataFrom, IsFileFrom, ReadsAny};
 
 use command_outcome::{Stop, passed_limit, unread_file};
 use outside::{FileRefusal, Files};
@@ -20,10 +20,10 @@ pub fn read_file<F: Files>(
     most: u64,
     limit: &str,
 ) -> Result<Vec<u8>, Stop>
-    ensures held { F.held files.new ≡ F.held files.old }
-    ensures reads { F.reads files.new ≡ raised (F.reads files.old) }
-    ensures never_fall { F.faults files.old ≤ F.faults files.new }
-    ensures file { IsFileOf (F.held files.old) name.now most limit.now (F.faults files.old) (F.faults files.new) result }
+    ensures held { (F.state files.new).held ≡ (F.state files.old).held }
+    ensures reads { (F.state files.new).reads ≡ raised (F.state files.old).reads }
+    ensures never_fall { (F.state files.old).faults ≤ (F.state files.new).faults }
+    ensures file { IsFileFrom (F.state files.old) (F.state files.new) name.now most limit.now result }
 {
     match files.read(alloc, name, most) {
         Ok(bytes) => Ok(bytes),
@@ -40,10 +40,10 @@ pub fn read_data<F: Files>(
     files: &mut F,
     name: Option<&str>,
 ) -> Result<Option<Vec<u8>>, Stop>
-    ensures held { F.held files.new ≡ F.held files.old }
-    ensures reads { ReadsAny (option_copied name.entry) (F.reads files.old) (F.reads files.new) }
-    ensures never_fall { F.faults files.old ≤ F.faults files.new }
-    ensures file { IsDataOf (F.held files.old) (option_copied name.entry) (F.faults files.old) (F.faults files.new) result }
+    ensures held { (F.state files.new).held ≡ (F.state files.old).held }
+    ensures reads { ReadsAny (option_copied name.entry) (F.state files.old).reads (F.state files.new).reads }
+    ensures never_fall { (F.state files.old).faults ≤ (F.state files.new).faults }
+    ensures file { IsDataFrom (F.state files.old) (F.state files.new) (option_copied name.entry) result }
 {
     match name {
         Some(name) => Ok(Some(read_file(alloc, files, name, MOST_DATA, "L10")?)),

@@ -21,10 +21,10 @@ const MOST_SOURCE: u64 = 262_144;
 
 /// The text of a command for `out`, or why there is none.
 pub fn compose<F: Files>(alloc: Global, words: &[String], files: &mut F) -> Result<String, Stop>
-    ensures held { F.held files.new ≡ F.held files.old }
-    ensures reads { HasRead (reading (texts words.now)) (F.reads files.old) (F.reads files.new) }
-    ensures never_fall { F.faults files.old ≤ F.faults files.new }
-    ensures allowed { Gives (IsAllowed (reading (texts words.now)) (record { held = F.held files.old; faults = F.faults files.old; faults_after = F.faults files.new; reads = F.reads files.old; reads_after = F.reads files.new })) result }
+    ensures held { (F.state files.new).held ≡ (F.state files.old).held }
+    ensures reads { HasRead (reading (texts words.now)) (F.state files.old) (F.state files.new) }
+    ensures never_fall { (F.state files.old).faults ≤ (F.state files.new).faults }
+    ensures allowed { Gives (IsAllowed (reading (texts words.now)) (F.state files.old) (F.state files.new)) result }
 {
     match read_words(words) {
         Asked::Build { file, function } => compose_build(alloc, files, file, function),
@@ -40,15 +40,13 @@ fn compose_build<F: Files>(
     file: &str,
     function: &str,
 ) -> Result<String, Stop>
-    ensures held { F.held files.new ≡ F.held files.old }
-    ensures reads { HasRead (BuildOf file.now function.now) (F.reads files.old) (F.reads files.new) }
-    ensures never_fall { F.faults files.old ≤ F.faults files.new }
-    ensures allowed { Gives (IsAllowed (BuildOf file.now function.now) (record { held = F.held files.old; faults = F.faults files.old; faults_after = F.faults files.new; reads = F.reads files.old; reads_after = F.reads files.new })) result }
+    ensures held { (F.state files.new).held ≡ (F.state files.old).held }
+    ensures reads { HasRead (BuildOf file.now function.now) (F.state files.old) (F.state files.new) }
+    ensures never_fall { (F.state files.old).faults ≤ (F.state files.new).faults }
+    ensures allowed { Gives (IsAllowed (BuildOf file.now function.now) (F.state files.old) (F.state files.new)) result }
 {
-    match read_file(alloc, files, file, MOST_SOURCE, "L1") {
-        Ok(source) => build_source(alloc, source.as_slice(), function),
-        Err(stop) => Err(stop),
-    }
+    let source = read_file(alloc, files, file, MOST_SOURCE, "L1")?;
+    build_source(alloc, source.as_slice(), function)
 }
 
 /// Evaluates a function of the source in a file, with the data files that are named.
@@ -57,23 +55,14 @@ fn compose_eval<F: Files>(
     files: &mut F,
     asked: EvalWords<'_>,
 ) -> Result<String, Stop>
-    ensures held { F.held files.new ≡ F.held files.old }
-    ensures reads { HasRead (EvalOf (evaluation_of asked.entry)) (F.reads files.old) (F.reads files.new) }
-    ensures never_fall { F.faults files.old ≤ F.faults files.new }
-    ensures allowed { Gives (IsAllowed (EvalOf (evaluation_of asked.entry)) (record { held = F.held files.old; faults = F.faults files.old; faults_after = F.faults files.new; reads = F.reads files.old; reads_after = F.reads files.new })) result }
+    ensures held { (F.state files.new).held ≡ (F.state files.old).held }
+    ensures reads { HasRead (EvalOf (evaluation_of asked.entry)) (F.state files.old) (F.state files.new) }
+    ensures never_fall { (F.state files.old).faults ≤ (F.state files.new).faults }
+    ensures allowed { Gives (IsAllowed (EvalOf (evaluation_of asked.entry)) (F.state files.old) (F.state files.new)) result }
 {
-    let source = match read_file(alloc, files, asked.file, MOST_SOURCE, "L1") {
-        Ok(source) => source,
-        Err(stop) => return Err(stop),
-    };
-    let args = match read_data(alloc, files, asked.args) {
-        Ok(args) => args,
-        Err(stop) => return Err(stop),
-    };
-    let witness = match read_data(alloc, files, asked.witness) {
-        Ok(witness) => witness,
-        Err(stop) => return Err(stop),
-    };
+    let source = read_file(alloc, files, asked.file, MOST_SOURCE, "L1")?;
+    let args = read_data(alloc, files, asked.args)?;
+    let witness = read_data(alloc, files, asked.witness)?;
     let given = GivenFiles {
         function: asked.function,
         args: lent(&args),

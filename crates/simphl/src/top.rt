@@ -12,7 +12,7 @@ use std::alloc::Global;
 
 /// Runs a command: reads the files that its words name, composes its text, and writes it to `out`, or why not to `err`.
 ///
-/// The clause `answer` says what each answer means and what caused it.
+/// The clause `answer` says what each answer means, what caused it and how many files were read for it.
 pub fn simphl<F: Files, O: Sink, E: Sink>(
     alloc: Global,
     words: &[String],
@@ -20,10 +20,11 @@ pub fn simphl<F: Files, O: Sink, E: Sink>(
     out: &mut O,
     err: &mut E,
 ) -> Status
-    ensures held { F.held files.new ≡ F.held files.old }
-    ensures reads { HasRead (reading (texts words.now)) (F.reads files.old) (F.reads files.new) }
-    ensures never_fall { F.faults files.old ≤ F.faults files.new }
-    ensures answer { IsAnswer (IsAllowed (reading (texts words.now)) (record { held = F.held files.old; faults = F.faults files.old; faults_after = F.faults files.new; reads = F.reads files.old; reads_after = F.reads files.new })) result (record { contents = O.contents out.old; faults = O.faults out.old }) (record { contents = O.contents out.new; faults = O.faults out.new }) (record { contents = E.contents err.old; faults = E.faults err.old }) (record { contents = E.contents err.new; faults = E.faults err.new }) }
+    ensures held { (F.state files.new).held ≡ (F.state files.old).held }
+    ensures reads { HasRead (reading (texts words.now)) (F.state files.old) (F.state files.new) }
+    ensures never_fall { (F.state files.old).faults ≤ (F.state files.new).faults }
+    ensures answer { IsAnswer (IsAllowed (reading (texts words.now)) (F.state files.old) (F.state files.new)) result
+        (O.state out.old) (O.state out.new) (E.state err.old) (E.state err.new) }
 {
     match compose(alloc, words, files) {
         Ok(text) => deliver(out, err, text.as_bytes()),
@@ -34,7 +35,7 @@ pub fn simphl<F: Files, O: Sink, E: Sink>(
 
 /// Puts a text on `out`.
 fn deliver<O: Sink, E: Sink>(out: &mut O, err: &mut E, text: &[u8]) -> Status
-    ensures { IsDelivered (record { contents = O.contents out.old; faults = O.faults out.old }) (record { contents = O.contents out.new; faults = O.faults out.new }) (record { contents = E.contents err.old; faults = E.faults err.old }) (record { contents = E.contents err.new; faults = E.faults err.new }) text.now result }
+    ensures { IsDelivered (O.state out.old) (O.state out.new) (E.state err.old) (E.state err.new) text.now result }
 {
     match out.put(text) {
         Ok(()) => Status::Done,
@@ -47,7 +48,7 @@ fn deliver<O: Sink, E: Sink>(out: &mut O, err: &mut E, text: &[u8]) -> Status
 
 /// Puts why there is no text on `err`.
 fn refuse<E: Sink>(err: &mut E, status: Status, text: &[u8]) -> Status
-    ensures { IsPut status (record { contents = E.contents err.old; faults = E.faults err.old }) (record { contents = E.contents err.new; faults = E.faults err.new }) text.now result }
+    ensures { IsPut status (E.state err.old) (E.state err.new) text.now result }
 {
     match err.put(text) {
         Ok(()) => status,
