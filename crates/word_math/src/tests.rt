@@ -342,8 +342,13 @@ fn word(argument: Argument) -> Word
 
 /// What the jet of a case gives.
 fn given(case: &Case) -> JetAnswer
-    requires words { IsTrue (are_words ((case.now.first.width, case.now.first.number) ∷ (case.now.second.width, case.now.second.number) ∷ (case.now.third.width, case.now.third.number) ∷ (case.now.fourth.width, case.now.fourth.number) ∷ [])) }
-    requires call { IsTrue (is_call (jet_of case.now.op) case.now.narrow case.now.wide case.now.count (case.now.first.width ∷ case.now.second.width ∷ case.now.third.width ∷ case.now.fourth.width ∷ [])) }
+    requires words { IsTrue (are_words
+        ((case.now.first.width, case.now.first.number) ∷ (case.now.second.width, case.now.second.number)
+        ∷ (case.now.third.width, case.now.third.number) ∷ (case.now.fourth.width, case.now.fourth.number)
+        ∷ [])) }
+    requires call { IsTrue (is_call (jet_of case.now.op) case.now.narrow case.now.wide case.now.count
+        (case.now.first.width ∷ case.now.second.width ∷ case.now.third.width ∷ case.now.fourth.width
+        ∷ [])) }
 {
     let words = [
         word(case.first),
@@ -356,7 +361,12 @@ fn given(case: &Case) -> JetAnswer
 
 /// How many cases give other results than they say.
 fn misses(cases: &[Case]) -> usize
-    requires { IsTrue (list_all (λ case. are_words ((case.first.width, case.first.number) ∷ (case.second.width, case.second.number) ∷ (case.third.width, case.third.number) ∷ (case.fourth.width, case.fourth.number) ∷ []) && is_call (jet_of case.op) case.narrow case.wide case.count (case.first.width ∷ case.second.width ∷ case.third.width ∷ case.fourth.width ∷ [])) cases.now) }
+    requires { IsTrue (list_all (λ case.
+        are_words
+        ((case.first.width, case.first.number) ∷ (case.second.width, case.second.number)
+        ∷ (case.third.width, case.third.number) ∷ (case.fourth.width, case.fourth.number) ∷ [])
+        && is_call (jet_of case.op) case.narrow case.wide case.count
+        (case.first.width ∷ case.second.width ∷ case.third.width ∷ case.fourth.width ∷ [])) cases.now) }
 {
     let mut misses = 0usize;
     for case in cases {
