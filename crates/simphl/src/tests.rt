@@ -1,6 +1,6 @@
 //! Commands over files and sinks in memory.
 
-use crate::top::simphl;
+use top_call::simphl;
 use command_outcome::Status;
 use outside::{MemoryFiles, MemorySink};
 use std::alloc::{AllocError, Global};
