@@ -58,7 +58,8 @@ fn compose_eval<F: Files>(
     ensures held { (F.state files.new).held ≡ (F.state files.old).held }
     ensures reads { HasRead (EvalOf (evaluation_of asked.entry)) (F.state files.old) (F.state files.new) }
     ensures never_fall { (F.state files.old).faults ≤ (F.state files.new).faults }
-    ensures allowed { Gives (IsAllowed (EvalOf (evaluation_of asked.entry)) (F.state files.old) (F.state files.new)) result }
+    ensures allowed { Gives
+        (IsAllowed (EvalOf (evaluation_of asked.entry)) (F.state files.old) (F.state files.new)) result }
 {
     let source = read_file(alloc, files, asked.file, MOST_SOURCE, "L1")?;
     let args = read_data(alloc, files, asked.args)?;
