@@ -8,7 +8,7 @@ import pathlib
 import subprocess
 import sys
 
-here = pathlib.Path(__file__).resolve().parent
+here = pathlib.Path(__file__).resolve().parent.parent / 'examples'
 
 
 def rows():
