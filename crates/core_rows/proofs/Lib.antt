@@ -3,3 +3,4 @@ mod Called
 mod RunRows
 mod RowMerged
 mod RowCanon
+mod OwnTypes

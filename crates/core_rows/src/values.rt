@@ -50,7 +50,7 @@ fn count_lefts(value: &CoreValue) -> usize {
 }
 
 #[test]
-#[tactic(auto, using(core_data::proofs::OwnTypes::of_own))]
+#[tactic(auto, using(crate::proofs::OwnTypes::of_own))]
 fn shrinks_and_drops_a_million_levels(rt: HostRuntime) -> Result<(), Fail> {
     let (value, kind) = deep_left(rt.alloc(), 1_000_000)?;
     let shrunk = shrink(rt.alloc(), &value, &kind)?;

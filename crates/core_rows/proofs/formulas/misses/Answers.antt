@@ -2,7 +2,7 @@ use Rattle.std.proofs.Common.{arith, ◌<◌, length}
 use Rattle.core_rows.proofs.Called.{list_all-get_or}
 use Rattle.core_rows.proofs.formulas.misses.Goals as goal
 
-pub given-requires-clause-call : goal.given-requires-clause-call
-given-requires-clause-call c =
+pub given-requires : goal.given-requires
+given-requires c =
     let within : c.loop-case.case-index < length c.args.cases.now = omega arith in
-    list_all-get_or _ c.args.cases.now c.loop-case.case-index _ within c.requires
+    list_all-get_or _ c.args.cases.now c.loop-case.case-index _ within c.requires.calls
