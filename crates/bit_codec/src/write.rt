@@ -79,7 +79,8 @@ fn write_pair(
     requires few { index < 2 ^ 32 }
     requires left { left < index }
     requires right { right < index }
-    ensures { OnOk result (writer.new ≡ writer.old ++ (number_bits 5 code ++ (natural (index - left) ++ natural (index - right)))) }
+    ensures { OnOk result (writer.new ≡ writer.old
+        ++ (number_bits 5 code ++ (natural (index - left) ++ natural (index - right)))) }
 {
     writer.push_number(code, 5)?;
     write_child(writer, index, left)?;
@@ -107,7 +108,8 @@ fn write_bytes(
 
 /// Appends the code, the width and the bits of a word.
 fn write_word(writer: &mut BitWriter, word: &Word) -> Result<(), AllocError>
-    ensures { OnOk result (writer.new ≡ writer.old ++ node_bits 0 (node.Word (level_of word.now.width) word.now.number)) }
+    ensures { OnOk result (writer.new ≡ writer.old
+        ++ node_bits 0 (node.Word (level_of word.now.width) word.now.number)) }
 {
     writer.push_number(2, 2)?;
     writer.push_natural(u64::from(word_level(word)) + 1)?;

@@ -1,3 +1,5 @@
 mod MachineRows
 mod Called
 mod RunRows
+mod RowMerged
+mod RowCanon

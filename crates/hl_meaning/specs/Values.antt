@@ -10,9 +10,10 @@ use Rattle.hl_syntax.specs.declared.kinds.HlType.TheViews.{out-HlType}
 use Rattle.hl_syntax.specs.declared.kinds.HlType.TheFolds.{fold-HlType}
 use Rattle.jets.specs.Unsigned.{Unsigned, is_width}
 use Rattle.simplicity.specs.Tuples.{tuple_value}
-use Rattle.simplicity.specs.Types.{Kind, One, Sum, Product, Value, UnitValue, Inl, Inr, Pair, bit_value, word_value, word_count}
+use Rattle.simplicity.specs.Types.{Value, UnitValue, Inl, Inr, Pair, bit_value, word_value, word_count}
 use Rattle.simplicity.specs.Widths.{level_of}
 use Rattle.simplicityhl.specs.Kinds.{bound_level, sound_step}
+pub use Rattle.simplicityhl.specs.Same.{same_kind}
 
 -- two answers beside one another, each where it is there
 abbrev pub beside : {A B C : Type 0} → (A → B → C) → Option A → Option B → Option C
@@ -78,13 +79,6 @@ encoded v kind = fold-HlValue Encoding encode_step v kind
 -- whether a type has sound widths, counts and bounds
 abbrev pub is_sound : HlType → Bool
 is_sound kind = fold-HlType Bool sound_step kind
-
--- whether two core types are the same
-abbrev pub same_kind : Kind → Kind → Bool
-same_kind One One = true
-same_kind (Sum a b) (Sum c d) = same_kind a c && same_kind b d
-same_kind (Product a b) (Product c d) = same_kind a c && same_kind b d
-same_kind _ _ = false
 
 -- Decoding.
 

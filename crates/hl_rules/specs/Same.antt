@@ -1,31 +1,10 @@
 -- Types of the source language: their shapes, and which are the same as written out.
-use Rattle.std.specs.Prelude.{Bool, true, false, ◌&&◌, nat_eq, ℕ, List, [], ◌∷◌, Option, Some, None}
+use Rattle.std.specs.Prelude.{ℕ, List, [], Option, Some, None}
 use Rattle.hl_syntax.specs.declared.kinds.HlType.{HlType}
 use Rattle.hl_syntax.specs.declared.kinds.HlType.TheOpen.{HlType-F}
 use Rattle.hl_syntax.specs.declared.kinds.HlType.TheViews.{out-HlType}
-use Rattle.hl_syntax.specs.declared.kinds.HlType.TheFolds.{fold-HlType}
 use Rattle.hl_syntax.specs.declared.kinds.HlType.TheVariants as kind
-pub use Rattle.hl_meaning.specs.Values.{same_kind}
-
--- whether types are the same, given for each of the first ones the test of being the same as it
-abbrev pub all_same : List (HlType → Bool) → List HlType → Bool
-all_same [] [] = true
-all_same (test ∷ tests) (k ∷ ks) = test k && all_same tests ks
-all_same _ _ = false
-
-abbrev pub same_shape : HlType-F (HlType → Bool) → HlType-F HlType → Bool
-same_shape HlType-F.Bool HlType-F.Bool = true
-same_shape (HlType-F.UInt m) (HlType-F.UInt n) = nat_eq m n
-same_shape (HlType-F.Tuple tests) (HlType-F.Tuple parts) = all_same tests parts
-same_shape (HlType-F.Array test m) (HlType-F.Array item n) = test item && nat_eq m n
-same_shape (HlType-F.List test m) (HlType-F.List item n) = test item && nat_eq m n
-same_shape (HlType-F.Option test) (HlType-F.Option item) = test item
-same_shape (HlType-F.Either first second) (HlType-F.Either left right) = first left && second right
-same_shape _ _ = false
-
--- whether two types are the same as written out without aliases
-abbrev pub same_type : HlType → HlType → Bool
-same_type a b = fold-HlType (HlType → Bool) (λ shape other. same_shape shape (out-HlType other)) a b
+pub use Rattle.simplicityhl.specs.Same.{same_kind, all_same, same_shape, same_type}
 
 -- the type of the empty tuple
 abbrev pub unit_type : HlType

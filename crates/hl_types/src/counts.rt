@@ -1,6 +1,6 @@
 ghost use Rattle.std.specs.Prelude.{◌≡◌, ◌<◌, min, IfOk, IsTrue};
 ghost use Rattle.hl_types.specs.Answers.{Answers};
-ghost use Rattle.simplicityhl.specs.Kinds.{is_bound};
+ghost use Rattle.simplicityhl.specs.Kinds.{is_bound, is_count};
 ghost use Rattle.simplicityhl.specs.Tokens.{decimal_value};
 ghost use Rattle.simplicityhl.specs.Written.{bounded, counted};
 
@@ -21,8 +21,13 @@ fn count_of(word: &[u8]) -> u32
 }
 
 /// A number within the greatest count, 65,536.
-pub(crate) fn counted(mark: &Mark) -> Result<u32, TypeRefusal>
-    ensures { Answers (counted mark.now) result }
+///
+/// # Errors
+///
+/// `Limit` L4 for a greater number.
+pub fn counted(mark: &Mark) -> Result<u32, TypeRefusal>
+    ensures answers { Answers (counted mark.now) result }
+    ensures sound { IfOk result (λ count. IsTrue (is_count count)) }
 {
     let count = count_of(mark.text.as_str().as_bytes());
     if count > 65_536 {
@@ -35,7 +40,7 @@ pub(crate) fn counted(mark: &Mark) -> Result<u32, TypeRefusal>
 }
 
 /// Whether lists have the bound: a power of two from 2 up to 65,536.
-fn is_list_bound(bound: u32) -> bool
+pub fn is_list_bound(bound: u32) -> bool
     ensures { result ≡ is_bound bound }
 {
     matches!(

@@ -94,7 +94,8 @@ impl Sink for MemorySink {
     /// Fails exactly where a failure of the call is planned or its piece passes the room. A call with
     /// an empty piece changes nothing and never fails.
     fn put(&mut self, piece: &[u8]) -> Result<(), SinkFailed>
-        ensures taken { taken_bytes self.new ≡ taken_bytes self.old ++ kept_of (next_fault self.old) (room_left self.old) piece.now }
+        ensures taken { taken_bytes self.new
+            ≡ taken_bytes self.old ++ kept_of (next_fault self.old) (room_left self.old) piece.now }
         ensures room { room_of self.new ≡ room_of self.old }
         ensures planned { planned_fault self.new ≡ planned_fault self.old }
 

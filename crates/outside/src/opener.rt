@@ -1,5 +1,5 @@
 // What opens files to be read.
-ghost use Rattle.std.specs.Prelude.{◌≡◌, ℕ, List, Option, None, Some, IfOk, IfSome};
+ghost use Rattle.std.specs.Prelude.{ℕ, List, Option, None, IfOk};
 ghost use Rattle.outside.specs.Streams.{HasLeft};
 
 use std::fs::File;

@@ -244,7 +244,7 @@ pick_carries ns done p = record {
 pub post_picked : (ns : List Node) → IsPlaced ns → 0 < length ns → Picked ns (post_order ns)
 post_picked ns placed h = record { orderly = post_orderly ns (down_of ns placed) h; placed = placed }
 
-last_get : (xs : List ℕ) (y : ℕ) → slice_get (xs ++ y ∷ []) (length xs) ≡ Some y
+pub last_get : (xs : List ℕ) (y : ℕ) → slice_get (xs ++ y ∷ []) (length xs) ≡ Some y
 last_get [] y = refl
 last_get (x ∷ xs) y = last_get xs y
 

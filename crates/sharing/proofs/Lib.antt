@@ -9,5 +9,5 @@ pub mod Unfolded
 pub mod Placing
 pub mod Cuts
 pub mod Pruned
-mod RowMerged
-mod RowCanon
+pub mod Lockstep
+pub mod CanonOne

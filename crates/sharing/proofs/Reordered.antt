@@ -1,8 +1,8 @@
--- A list is reordered in one way at most, and by one pass of merging.
-use Rattle.std.proofs.Common.{◌≡◌, ap, subst, ℕ, ◌<◌, List, length, arith}
+-- A list is reordered in one way at most, as are lists that gather one, and by one pass of merging.
+use Rattle.std.proofs.Common.{◌≡◌, refl, ap, subst, ℕ, ◌<◌, List, length, arith}
 use Rattle.simplicity.specs.Nodes.{Node, IsPlaced}
 use Rattle.simplicity.specs.Order.{post_order}
-use Rattle.simplicity.specs.Typing.{Typing, Arrow}
+use Rattle.simplicity.specs.Typing.{Typing, Arrow, IsLeast}
 use Rattle.simplicity.specs.Pruning.{IsMerged, IsReordered, gathered}
 use Rattle.simplicity.proofs.Typings.{typing_length}
 use Rattle.simplicity.proofs.Below.{least_one}
@@ -19,6 +19,17 @@ gathering_orders ns placed full = (gathered_placed ns placed full, gathered_orde
 pub merging_orders : MergingOrders
 merging_orders ns ms ts us f placed more full merged ordered in_order = merged_ordered ns ms ts us f placed more full merged ordered in_order
 
+-- lists that gather one list are reordered to one
+pub reordered_alike : (ns os ms ls : List Node) (us vs : Typing) (ps qs : List ℕ) (root : Arrow) → IsPlaced ns → 0 < length ns → gathered os ≡ gathered ns →
+    IsReordered ns root ms us ps → IsReordered os root ls vs qs → (ms ≡ ls) × (us ≡ vs)
+reordered_alike ns os ms ls us vs ps qs root placed full same a b =
+    let least = subst (λ (g : List Node). IsLeast g root b.typing) same b.least in
+    let alike = subst (λ (g : List Node). IsMerged g b.typing ls vs b.place) same b.merged in
+    let merged = subst (λ (ts : Typing). IsMerged (gathered ns) ts ls vs b.place) (least_one (gathered ns) root b.typing a.typing least a.least) alike in
+    one_merged (gathered ns) ms ls a.typing us vs a.place b.place (gathered_placed ns placed full) a.canonical.placed b.canonical.placed (gathered_full ns placed full)
+    (gathered_ordered ns placed full) a.merged merged a.canonical.shared b.canonical.shared a.canonical.ordered b.canonical.ordered
+    (typing_length us ms us a.canonical.least.typing.typed) (typing_length vs ls vs b.canonical.least.typing.typed)
+
 -- the second reordering merges the first one's list
 second_merged : (ns ms ls : List Node) (us vs : Typing) (ps qs : List ℕ) (root : Arrow) (a : IsReordered ns root ms us ps) (b : IsReordered ns root ls vs qs) → IsMerged (gathered ns) a.typing ls vs b.place
 second_merged ns ms ls us vs ps qs root a b =
@@ -34,10 +45,7 @@ places_alike ns ms ls us vs ps qs root placed full a b old reached =
 
 pub reordered_is_one : ReorderedIsOne
 reordered_is_one ns ms ls us vs ps qs root placed full a b =
-    let one : (ms ≡ ls) × (us ≡ vs) =
-    one_merged (gathered ns) ms ls a.typing us vs a.place b.place (gathered_placed ns placed full) a.canonical.placed b.canonical.placed (gathered_full ns placed full)
-    (gathered_ordered ns placed full) a.merged (second_merged ns ms ls us vs ps qs root a b) a.canonical.shared b.canonical.shared a.canonical.ordered b.canonical.ordered
-    (typing_length us ms us a.canonical.least.typing.typed) (typing_length vs ls vs b.canonical.least.typing.typed) in
+    let one = reordered_alike ns ns ms ls us vs ps qs root placed full refl a b in
     let many : length ms ≡ length ls = ap (λ (l : List Node). length l) one.0 in
     (one.0, one.1, places_are_one ns ms ls a.place b.place ps qs many (places_alike ns ms ls us vs ps qs root placed full a b) a.from b.from)
 

@@ -1,4 +1,4 @@
--- Laws of cuts, order, merging and reordering, and that pruning relates a list to one result at most (this project's own).
+-- Laws of cuts, order, merging and reordering, and that pruning a list and listing a term have one result at most (this project's own).
 use Rattle.std.specs.Prelude.{◌≡◌, ℕ, ◌<◌, List, length}
 use Rattle.std.specs.List.{range_with_len, slice_index_or}
 use Rattle.simplicity.specs.Types.{Value}
@@ -10,6 +10,7 @@ use Rattle.simplicity.specs.Places.{ArePlaces}
 use Rattle.simplicity.specs.Typing.{Typing, Arrow, IsLeast}
 use Rattle.simplicity.specs.Shared.{IsShared}
 use Rattle.simplicity.specs.Pruning.{IsCut, IsHide, IsMerged, IsReordered, IsPruned, gathered, gathered_numbers}
+use Rattle.simplicity.specs.Canon.{Declared, IsCanon}
 use Rattle.sharing.specs.Images.{images}
 
 -- hiding what a run doesn't visit is a cut
@@ -83,3 +84,8 @@ renumbered r (term.Fail e) = term.Fail e
 abbrev pub ReorderingRenumbers : Type 0
 ReorderingRenumbers = (ns ms : List Node) (us : Typing) (places : List ℕ) (root : Arrow) → IsPlaced ns → HasRoot ns →
     IsReordered ns root ms us places → tree_of ns ≡ renumbered (λ k. slice_index_or (gathered_numbers ns) k 0) (tree_of ms)
+
+-- a term with declared arrows has one canonical list at most at an arrow, with one typing and one list of names
+abbrev pub CanonIsOne : Type 0
+CanonIsOne = (t : Declared) (root : Arrow) (ms ls : List Node) (us vs : Typing) (new_names other_names : List ℕ) →
+    IsCanon t root ms us new_names → IsCanon t root ls vs other_names → (ms ≡ ls) × (us ≡ vs) × (new_names ≡ other_names)

@@ -1,7 +1,7 @@
 // Laws of cuts, sharing and order, over the core language: each function below has no body, and its contract is a law.
 #![tactic(auto)]
 
-ghost use Rattle.sharing.specs.Laws.{HidingCuts, HidingIsOne, CutsArePlaced, MergingKeepsLeast, GatheringOrders, MergingOrders, ReorderedIsOne, MergedIsReordered, PrunedIsOne, ReorderingRenumbers};
+ghost use Rattle.sharing.specs.Laws.{HidingCuts, HidingIsOne, CutsArePlaced, MergingKeepsLeast, GatheringOrders, MergingOrders, ReorderedIsOne, MergedIsReordered, PrunedIsOne, ReorderingRenumbers, CanonIsOne};
 
 /// Hiding what a run doesn't visit is a cut.
 pub fn hiding_cuts_law()
@@ -51,4 +51,9 @@ pub fn pruned_is_one_law()
 /// The tree of a list is that of the list reordered, with its witnesses numbered anew.
 pub fn reordering_renumbers_law()
     ensures { ReorderingRenumbers }
+{}
+
+/// A term with declared arrows has one canonical list at most at an arrow.
+pub fn canon_is_one_law()
+    ensures { CanonIsOne }
 {}

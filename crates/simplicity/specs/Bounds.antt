@@ -12,8 +12,8 @@ writing_work One = 0
 writing_work (Sum a b) = 1 + max (1 + pad_left a b + writing_work a) (1 + pad_right a b + writing_work b)
 writing_work (Product a b) = writing_work a + writing_work b
 
--- the bounds of a term: its work, the cells and frames that it takes beside those that are there, and the nodes on its tree's longest way down;
--- these bound the nodes that a run has open at once, begun and not yet done, and not the items left to do, of which an open node may have many
+-- the bounds of a term: its work, the cells and frames that it takes beside those that are there, and its depth, the nodes on its tree's longest way down;
+-- the depth bounds the nodes that a run has open at once, begun and not yet done, and not the items left to do, of which an open node may have many
 pub record Bounds : Type 0 where
   pub work : ℕ
   pub cells : ℕ

@@ -11,7 +11,7 @@ most_weight = 4194304
 
 -- L6: the nodes of a program
 abbrev pub most_nodes : ℕ
-most_nodes = 65536
+most_nodes = 1048576
 
 -- L7, L8 and L9: the bounds of a program's work, of its cells and of its frames
 abbrev pub most_work : ℕ

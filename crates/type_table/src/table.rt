@@ -68,7 +68,8 @@ impl TypeTable {
     pub fn sum(&mut self, left: TypeId, right: TypeId) -> Result<TypeId, AllocError>
         requires left { left < length self.old }
         requires right { right < length self.old }
-        ensures ok { IfOk result (λ id. Means self.new id (Sum (kind_at self.old left) (kind_at self.old right))) }
+        ensures ok { IfOk result (λ id.
+            Means self.new id (Sum (kind_at self.old left) (kind_at self.old right))) }
         ensures grown { IsGrown self.old self.new }
         ensures distinct { IsDistinct self.new }
     {
@@ -79,7 +80,8 @@ impl TypeTable {
     pub fn product(&mut self, left: TypeId, right: TypeId) -> Result<TypeId, AllocError>
         requires left { left < length self.old }
         requires right { right < length self.old }
-        ensures ok { IfOk result (λ id. Means self.new id (Product (kind_at self.old left) (kind_at self.old right))) }
+        ensures ok { IfOk result (λ id.
+            Means self.new id (Product (kind_at self.old left) (kind_at self.old right))) }
         ensures grown { IsGrown self.old self.new }
         ensures distinct { IsDistinct self.new }
     {

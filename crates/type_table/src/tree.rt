@@ -50,8 +50,12 @@ impl TypeTable {
         trees: &mut Vec<CoreType>,
     ) -> Result<(), AllocError>
         requires { IsSome (after_step self.now step (Some (stack_of trees.old.items))) }
-        ensures after { IfOk result (λ _. after_steps self.now steps.new.items (Some (stack_of trees.new.items)) ≡ after_steps self.now steps.old.items (after_step self.now step (Some (stack_of trees.old.items)))) }
-        ensures less { IfOk result (λ _. load self.now steps.new.items < step_load self.now step + load self.now steps.old.items) }
+        ensures after { IfOk result (λ _.
+            after_steps self.now steps.new.items (Some (stack_of trees.new.items))
+            ≡ after_steps self.now steps.old.items
+            (after_step self.now step (Some (stack_of trees.old.items)))) }
+        ensures less { IfOk result (λ _.
+            load self.now steps.new.items < step_load self.now step + load self.now steps.old.items) }
     {
         match step {
             Step::Make(id) => self.make(id, steps, trees)?,
@@ -79,8 +83,13 @@ impl TypeTable {
         trees: &mut Vec<CoreType>,
     ) -> Result<(), AllocError>
         requires { id < length self.now }
-        ensures after { IfOk result (λ _. after_steps self.now steps.new.items (Some (stack_of trees.new.items)) ≡ after_steps self.now steps.old.items (Some (kind_at self.now id ∷ stack_of trees.old.items))) }
-        ensures less { IfOk result (λ _. load self.now steps.new.items < 2 * weight (kind_at self.now id) + load self.now steps.old.items) }
+        ensures after { IfOk result (λ _.
+            after_steps self.now steps.new.items (Some (stack_of trees.new.items))
+            ≡ after_steps self.now steps.old.items
+            (Some (kind_at self.now id ∷ stack_of trees.old.items))) }
+        ensures less { IfOk result (λ _.
+            load self.now steps.new.items
+            < 2 * weight (kind_at self.now id) + load self.now steps.old.items) }
     {
         match self.shape(id) {
             Shape::One => trees.push(CoreType::One)?,
@@ -93,7 +102,8 @@ impl TypeTable {
 
 /// Leaves the steps that make two trees and join them.
 fn plan(steps: &mut Vec<Step>, left: TypeId, right: TypeId, join: Step) -> Result<(), AllocError>
-    ensures { IfOk result (λ _. steps.new.items ≡ steps.old.items ++ join ∷ Make right ∷ Make left ∷ []) }
+    ensures { IfOk result (λ _.
+        steps.new.items ≡ steps.old.items ++ join ∷ Make right ∷ Make left ∷ []) }
 {
     steps.push(join)?;
     steps.push(Step::Make(right))?;

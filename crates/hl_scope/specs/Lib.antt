@@ -1,0 +1,4 @@
+pub mod Checks
+pub mod Contexts
+pub mod Heads
+pub mod Leaves
