@@ -25,7 +25,6 @@ use Rattle.hl_data.specs.declared.value.Entry.{Entry}
 use Rattle.jets.specs.Jet.{Row}
 use Rattle.simplicity.specs.Limits.{most_weight}
 use Rattle.simplicity.specs.Types.{weight}
-use Rattle.simplicity.specs.Limits.{most_weight}
 use Rattle.simplicityhl.specs.Grammar.{is_among}
 use Rattle.simplicityhl.specs.Kinds.{form, is_bound}
 use Rattle.simplicityhl.specs.Tokens.{decimal_value}
