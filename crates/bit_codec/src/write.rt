@@ -79,7 +79,8 @@ fn write_pair(
     requires few { index < 2 ^ 32 }
     requires left { left < index }
     requires right { right < index }
-    ensures { OnOk result (writer.new ≡ writer.old ++ (number_bits 5 code ++ (natural (index - left) ++ natural (index - right)))) }
+    ensures { OnOk result (writer.new ≡ writer.old
+        ++ (number_bits 5 code ++ (natural (index - left) ++ natural (index - right)))) }
 {
     writer.push_number(code, 5)?;
     write_child(writer, index, left)?;
@@ -107,7 +108,8 @@ fn write_bytes(
 
 /// Appends the code, the width and the bits of a word.
 fn write_word(writer: &mut BitWriter, word: &Word) -> Result<(), AllocError>
-    ensures { OnOk result (writer.new ≡ writer.old ++ node_bits 0 (node.Word (level_of word.now.width) word.now.number)) }
+    ensures { OnOk result (writer.new ≡ writer.old
+        ++ node_bits 0 (node.Word (level_of word.now.width) word.now.number)) }
 {
     writer.push_number(2, 2)?;
     writer.push_natural(u64::from(word_level(word)) + 1)?;
@@ -125,38 +127,4 @@ fn write_child(writer: &mut BitWriter, index: usize, child: usize) -> Result<(),
 {
     writer.push_natural((index - child) as u64)?;
     Ok(())
-}
-
-#[cfg(test)]
-mod tests {
-    use super::*;
-    use std::test::Fail;
-
-    #[test]
-    fn spells_small_programs(rt: HostRuntime) -> Result<(), Fail> {
-        let mut nodes = NodeList::new(rt.alloc());
-        nodes.push(ListNode::Iden)?;
-        let bytes = write_program(rt.alloc(), &nodes)?;
-        assert_eq!(rt; bytes.as_slice(), [0x20].as_slice());
-        nodes.push(ListNode::Drop(0))?;
-        let bytes = write_program(rt.alloc(), &nodes)?;
-        assert_eq!(rt; bytes.as_slice(), [0x88, 0x38].as_slice());
-        nodes.push(ListNode::Take(0))?;
-        nodes.push(ListNode::Pair(1, 2))?;
-        let bytes = write_program(rt.alloc(), &nodes)?;
-        assert_eq!(rt; bytes.as_slice(), [0xC1, 0x07, 0x1A, 0x0A, 0x00].as_slice());
-        Ok(())
-    }
-
-    #[test]
-    fn spells_a_word(rt: HostRuntime) -> Result<(), Fail> {
-        let mut nodes = NodeList::new(rt.alloc());
-        nodes.push(ListNode::Unit)?;
-        let five = Word::new(8, 0, 5).ok_or("no word")?;
-        nodes.push(ListNode::Word(five))?;
-        nodes.push(ListNode::Comp(0, 1))?;
-        let bytes = write_program(rt.alloc(), &nodes)?;
-        assert_eq!(rt; bytes.as_slice(), [0xA9, 0xB0, 0x05, 0x04, 0x00].as_slice());
-        Ok(())
-    }
 }

@@ -2,8 +2,6 @@
 #![tactic(auto)]
 
 mod key;
-#[cfg(test)]
-mod tests;
 mod words;
 
 pub use key::Key;

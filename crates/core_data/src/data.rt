@@ -95,23 +95,3 @@ pub fn has_type(value: &CoreValue, kind: &CoreType) -> bool
         },
     }
 }
-
-#[cfg(test)]
-mod tests {
-    use super::*;
-    use std::test::Fail;
-
-    #[test]
-    fn keeps_values(rt: HostRuntime) -> Result<(), Fail> {
-        let mut values = CoreValues::new(rt.alloc());
-        values.push(CoreValue::Unit)?;
-        values.push(CoreValue::Right(Box::new(rt.alloc(), CoreValue::Unit)?))?;
-        let one = Box::new(rt.alloc(), CoreType::One)?;
-        let other = Box::new(rt.alloc(), CoreType::One)?;
-        let bit = CoreType::Sum(one, other);
-        assert_eq!(rt; values.len(), 2);
-        assert!(rt; has_type(values.get(1), &bit));
-        assert!(rt; !has_type(values.get(0), &bit));
-        Ok(())
-    }
-}

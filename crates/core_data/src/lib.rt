@@ -3,8 +3,6 @@
 
 mod data;
 mod shrunk;
-#[cfg(test)]
-mod tests;
 
 pub use data::{CoreType, CoreValue, CoreValues, has_type};
 pub use shrunk::shrink;

@@ -26,7 +26,8 @@ pub(crate) enum Step<'a> {
 /// takes no stack.
 pub fn shrink(alloc: Global, value: &CoreValue, kind: &CoreType) -> Result<CoreValue, AllocError>
     requires { IsOfAbove (value_of value.now) (kind_of kind.now) }
-    ensures { IfOk result (λ shrunk. value_of shrunk ≡ core.shrink (value_of value.now) (kind_of kind.now)) }
+    ensures { IfOk result (λ shrunk.
+        value_of shrunk ≡ core.shrink (value_of value.now) (kind_of kind.now)) }
 {
     let mut steps = Vec::new(alloc);
     steps.push(Step::Shrink(value, kind))?;
@@ -48,7 +49,9 @@ fn take_step<'a>(
     values: &mut Vec<CoreValue>,
 ) -> Result<(), AllocError>
     requires { IsSome (after_step step (Some (stack_of values.old.items))) }
-    ensures { IfOk result (λ _. Goes steps.old.items steps.new.items (after_step step.entry (Some (stack_of values.old.items))) (stack_of values.new.items) (step_turns step.entry)) }
+    ensures { IfOk result (λ _. Goes steps.old.items steps.new.items
+        (after_step step.entry (Some (stack_of values.old.items)))
+        (stack_of values.new.items) (step_turns step.entry)) }
 {
     match step {
         Step::Shrink(value, kind) => cut_at(value, kind, steps, values)?,
@@ -77,7 +80,9 @@ fn cut_at<'a>(
     values: &mut Vec<CoreValue>,
 ) -> Result<(), AllocError>
     requires { IsSome (cut (value_of value.now) (kind_of kind.now)) }
-    ensures { IfOk result (λ _. Goes steps.old.items steps.new.items (before (cut (value_of value.now) (kind_of kind.now)) (stack_of values.old.items)) (stack_of values.new.items) (2 * load (value_of value.now))) }
+    ensures { IfOk result (λ _. Goes steps.old.items steps.new.items
+        (before (cut (value_of value.now) (kind_of kind.now)) (stack_of values.old.items))
+        (stack_of values.new.items) (2 * load (value_of value.now))) }
 {
     match kind {
         CoreType::One => values.push(CoreValue::Unit)?,
@@ -101,7 +106,8 @@ fn plan_tag<'a>(
     value: &'a CoreValue,
     kind: &'a CoreType,
 ) -> Result<(), AllocError>
-    ensures { IfOk result (λ _. steps.new.items ≡ steps.old.items ++ tag.entry ∷ Shrink value.entry kind.entry ∷ []) }
+    ensures { IfOk result (λ _. steps.new.items ≡ steps.old.items
+        ++ tag.entry ∷ Shrink value.entry kind.entry ∷ []) }
 {
     steps.push(tag)?;
     steps.push(Step::Shrink(value, kind))?;
@@ -114,7 +120,8 @@ fn plan_pair<'a>(
     first: (&'a CoreValue, &'a CoreType),
     second: (&'a CoreValue, &'a CoreType),
 ) -> Result<(), AllocError>
-    ensures { IfOk result (λ _. steps.new.items ≡ steps.old.items ++ JoinPair ∷ Shrink second.entry.0 second.entry.1 ∷ Shrink first.entry.0 first.entry.1 ∷ []) }
+    ensures { IfOk result (λ _. steps.new.items ≡ steps.old.items
+        ++ JoinPair ∷ Shrink second.entry.0 second.entry.1 ∷ Shrink first.entry.0 first.entry.1 ∷ []) }
 {
     steps.push(Step::JoinPair)?;
     steps.push(Step::Shrink(second.0, second.1))?;

@@ -1,1 +1,6 @@
 mod MachineRows
+mod Called
+mod RunRows
+mod RowMerged
+mod RowCanon
+mod OwnTypes

@@ -1,11 +1,24 @@
-//! Rows of the core language, as tests over its layers: lists with their typings and roots, and the
-//! table of jets. A crate with tests is proved a second time with them, so the rows of the dear
-//! layers stand here. It has no calls.
+//! Rows of the core language, as tests over its layers: words, types, terms, lists with their typings, roots and bytes,
+//! and the table of jets. A crate with tests is proved a second time with them, so the rows stand here. It has no calls.
 #![tactic(auto)]
 
 #[cfg(test)]
+mod bits;
+#[cfg(test)]
+mod formulas;
+#[cfg(test)]
 mod jet_names;
+#[cfg(test)]
+mod programs;
 #[cfg(test)]
 mod roots;
 #[cfg(test)]
+mod small;
+#[cfg(test)]
+mod tables;
+#[cfg(test)]
 mod typings;
+#[cfg(test)]
+mod values;
+#[cfg(test)]
+mod words;

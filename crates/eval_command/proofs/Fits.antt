@@ -22,12 +22,13 @@ use Rattle.hl_rules.specs.Programs.{Checked, checked, checked_of, program_walk, 
 use Rattle.hl_rules.specs.Steps.{needs}
 use Rattle.hl_rules.specs.Walks as walks
 use Rattle.hl_typed.specs.Typed.{BreaksNothing}
+use Rattle.hl_typing.specs.Patterns.{Once}
 use Rattle.hl_progress.specs.Calls.{FitsCall, argument_type, function_of}
 use Rattle.hl_progress.specs.Held.{HasValue, IsValueOf}
-use Rattle.hl_progress.proofs.Every.{Every, every_of}
-use Rattle.hl_progress.proofs.Once.{Once, neither, other_way}
+use Rattle.hl_typing.proofs.Every.{Every, every_of}
+use Rattle.hl_typing.proofs.Once.{neither, other_way}
 use Rattle.hl_progress.proofs.Programs.{witnesses_once}
-use Rattle.hl_progress.proofs.Steps.{ran, ok_same, needs_ok}
+use Rattle.hl_typing.proofs.Steps.{ran, ok_same, needs_ok}
 use Rattle.eval_command.specs.Evaluation.{wanted}
 
 -- The function that was asked for is there.

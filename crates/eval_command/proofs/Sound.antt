@@ -25,9 +25,9 @@ use Rattle.hl_rules.specs.Programs.{Known, Checked, checked, checked_of, program
 use Rattle.hl_rules.specs.Steps.{needs}
 use Rattle.hl_typed.specs.Typed.{BreaksNothing}
 use Rattle.hl_progress.specs.Calls.{argument_type, function_of}
-use Rattle.hl_progress.proofs.Every.{Every, every_join, every_found}
-use Rattle.hl_progress.proofs.Sound.{walk_sound, unit_sound, closed_sound, and_true}
-use Rattle.hl_progress.proofs.Steps.{ran, ok_same}
+use Rattle.hl_typing.proofs.Every.{Every, every_join, every_found}
+use Rattle.hl_typing.proofs.Sound.{walk_sound, unit_sound, closed_sound, and_true}
+use Rattle.hl_typing.proofs.Steps.{ran, ok_same}
 
 abbrev AreSound : List TypedName → Type 0
 AreSound names = Every (λ (n : TypedName). IsSound n.kind) names

@@ -114,7 +114,8 @@ fn from_argument(
     given: GivenFiles<'_>,
 ) -> Result<String, Stop>
     requires there { IsTrue (has_function program.now.functions given.function.now) }
-    requires valued { IsTrue (is_main given.function.now) → All (HasValue (bindings_of witness.now)) program.now.witnesses }
+    requires valued { IsTrue (is_main given.function.now)
+        → All (HasValue (bindings_of witness.now)) program.now.witnesses }
     ensures { Gives (FromArgument (given_of given.entry) program.now witness.now) result }
 {
     program.breaks_nothing();
@@ -172,7 +173,8 @@ fn from_call(
     argument: &HlValue,
 ) -> Result<String, Stop>
     requires { FitsCall program.now name.now argument.now (bindings_of witness.now) }
-    ensures { Gives (AfterMeaning (meaning program.now.functions name.now (bindings_of witness.now) argument.now)) result }
+    ensures { Gives (AfterMeaning
+        (meaning program.now.functions name.now (bindings_of witness.now) argument.now)) result }
 {
     match eval(alloc, program, name, argument, witness) {
         Ok(value) => {

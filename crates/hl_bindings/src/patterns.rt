@@ -6,7 +6,7 @@ ghost use Rattle.hl_grammar.specs.Read.{pattern_start};
 ghost use Rattle.hl_grammar.specs.Read as read;
 ghost use Rattle.simplicityhl.specs.Grammar.{pattern_of};
 ghost use Rattle.hl_cursor.specs.Gives.{Gives, Reads, listed_of};
-ghost use Rattle.hl_cursor.specs.Nests.{Nests};
+ghost use Rattle.hl_cursor.specs.Nests.{NestsPattern};
 
 use hl_cursor::{Cursor, Listed, Refused, is_keyword};
 use hl_syntax::{Pattern, PatternForm, Patterns, Symbol, Token, TokenKind};
@@ -37,7 +37,7 @@ fn start(tokens: &[Token]) -> Option<PatternAlternative>
 
 impl<F: Fn(Global, &mut Cursor<'_>, u8) -> Result<Pattern, Refused>> Inner<F> {
     fn pattern(&self, cursor: &mut Cursor<'_>) -> Result<Pattern, Refused>
-        requires { Nests (read.pattern self.now.depth) self.now.depth (F.pre self.now.pattern) (F.post self.now.pattern) }
+        requires { NestsPattern self.now.depth (F.pre self.now.pattern) (F.post self.now.pattern) }
         ensures { Reads (read.pattern self.now.depth cursor.old) result cursor.new }
     {
         (self.pattern)(self.alloc, cursor, self.depth)
@@ -49,8 +49,9 @@ impl<F: Fn(Global, &mut Cursor<'_>, u8) -> Result<Pattern, Refused>> Inner<F> {
         cursor: &mut Cursor<'_>,
         alternative: PatternAlternative,
     ) -> Result<PatternForm, Refused>
-        requires { Nests (read.pattern self.now.depth) self.now.depth (F.pre self.now.pattern) (F.post self.now.pattern) }
-        ensures { Reads (read.pattern_form (read.pattern self.now.depth) alternative cursor.old) result cursor.new }
+        requires { NestsPattern self.now.depth (F.pre self.now.pattern) (F.post self.now.pattern) }
+        ensures { Reads (read.pattern_form (read.pattern self.now.depth) alternative cursor.old)
+            result cursor.new }
     {
         match alternative {
             PatternAlternative::Name => Ok(PatternForm::Name(cursor.name()?.text)),
@@ -68,8 +69,9 @@ impl<F: Fn(Global, &mut Cursor<'_>, u8) -> Result<Pattern, Refused>> Inner<F> {
 
     #[tactic(auto, using(hl_cursor::proofs::Turns::turn, hl_cursor::proofs::Turns::over))]
     fn list(&self, cursor: &mut Cursor<'_>, close: Symbol) -> Result<Listed<Pattern>, Refused>
-        requires { Nests (read.pattern self.now.depth) self.now.depth (F.pre self.now.pattern) (F.post self.now.pattern) }
-        ensures { Gives listed_of (read.many close (read.pattern self.now.depth) cursor.old) result cursor.new }
+        requires { NestsPattern self.now.depth (F.pre self.now.pattern) (F.post self.now.pattern) }
+        ensures { Gives listed_of (read.many close (read.pattern self.now.depth) cursor.old)
+            result cursor.new }
     {
         let mut items = Patterns::new(self.alloc);
         for _turn in 0..cursor.turns() {
@@ -93,8 +95,11 @@ impl<F: Fn(Global, &mut Cursor<'_>, u8) -> Result<Pattern, Refused>> Inner<F> {
 
     #[tactic(auto, unfolding(hl_grammar::specs::Read::parenthesised))]
     fn parenthesised(&self, cursor: &mut Cursor<'_>) -> Result<Pattern, Refused>
-        requires { Nests (read.pattern self.now.depth) self.now.depth (F.pre self.now.pattern) (F.post self.now.pattern) }
-        ensures { Reads (read.parenthesised (λ ps. pattern_of (PatternForm.Tuple ps)) (read.pattern self.now.depth) cursor.old) result cursor.new }
+        requires { NestsPattern self.now.depth (F.pre self.now.pattern) (F.post self.now.pattern) }
+        ensures { Reads
+            (read.parenthesised (λ ps. pattern_of (PatternForm.Tuple ps)) (read.pattern self.now.depth)
+            cursor.old)
+            result cursor.new }
     {
         let first = cursor.tokens();
         cursor.expect(Symbol::OpenParenthesis)?;
@@ -111,7 +116,7 @@ impl<F: Fn(Global, &mut Cursor<'_>, u8) -> Result<Pattern, Refused>> Inner<F> {
 
     #[tactic(auto, unfolding(hl_grammar::specs::Read::pattern_level))]
     fn level(&self, cursor: &mut Cursor<'_>) -> Result<Pattern, Refused>
-        requires { Nests (read.pattern self.now.depth) self.now.depth (F.pre self.now.pattern) (F.post self.now.pattern) }
+        requires { NestsPattern self.now.depth (F.pre self.now.pattern) (F.post self.now.pattern) }
         ensures { Reads (read.pattern_level (read.pattern self.now.depth) cursor.old) result cursor.new }
     {
         if cursor.is_at(Symbol::OpenParenthesis) {

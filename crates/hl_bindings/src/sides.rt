@@ -57,7 +57,8 @@ fn binding(
     depth: u8,
 ) -> Result<(Pattern, TypeText), Refused>
     ensures { (side : Pattern → TypeText → Side) →
-        Gives (λ b. side b.0 b.1) (read.binding side (read.pattern depth) (read.type depth) cursor.old) result cursor.new }
+        Gives (λ b. side b.0 b.1)
+        (read.binding side (read.pattern depth) (read.type depth) cursor.old) result cursor.new }
 {
     cursor.expect(Symbol::OpenParenthesis)?;
     let bound = pattern(alloc, cursor, depth)?;
@@ -75,7 +76,8 @@ fn form(
     depth: u8,
     alternative: SideAlternative,
 ) -> Result<Side, Refused>
-    ensures { Reads (read.side_form (read.pattern depth) (read.type depth) alternative cursor.old) result cursor.new }
+    ensures { Reads (read.side_form (read.pattern depth) (read.type depth) alternative cursor.old)
+        result cursor.new }
 {
     match alternative {
         SideAlternative::Left => {
@@ -115,7 +117,9 @@ fn form(
 /// `Syntax` where the tokens begin no side, `TooDeep` where its pattern or its type goes deeper,
 /// with the cursor at the token that is refused; `OutOfMemory`.
 pub fn side(alloc: Global, cursor: &mut Cursor<'_>, depth: u8) -> Result<Side, Refused>
-    ensures { Reads (pick read.side_start (read.side_form (read.pattern depth) (read.type depth)) cursor.old) result cursor.new }
+    ensures { Reads
+        (pick read.side_start (read.side_form (read.pattern depth) (read.type depth)) cursor.old)
+        result cursor.new }
 {
     let Some(alternative) = start(cursor.tokens()) else {
         return Err(Refused::Syntax);

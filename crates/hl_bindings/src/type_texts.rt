@@ -6,7 +6,7 @@ ghost use Rattle.hl_grammar.specs.Read.{type_start};
 ghost use Rattle.hl_grammar.specs.Read as read;
 ghost use Rattle.simplicityhl.specs.Grammar.{type_of};
 ghost use Rattle.hl_cursor.specs.Gives.{Gives, Reads, listed_of};
-ghost use Rattle.hl_cursor.specs.Nests.{Nests};
+ghost use Rattle.hl_cursor.specs.Nests.{NestsType};
 
 use hl_cursor::{Cursor, Listed, Refused, is_keyword, next_symbol};
 use hl_syntax::{Symbol, Token, TokenKind, TypeForm, TypeText, TypeTexts};
@@ -65,7 +65,7 @@ fn start(tokens: &[Token]) -> Option<TypeAlternative>
 
 impl<F: Fn(Global, &mut Cursor<'_>, u8) -> Result<TypeText, Refused>> Inner<F> {
     fn type_text(&self, cursor: &mut Cursor<'_>) -> Result<TypeText, Refused>
-        requires { Nests (read.type self.now.depth) self.now.depth (F.pre self.now.type_text) (F.post self.now.type_text) }
+        requires { NestsType self.now.depth (F.pre self.now.type_text) (F.post self.now.type_text) }
         ensures { Reads (read.type self.now.depth cursor.old) result cursor.new }
     {
         (self.type_text)(self.alloc, cursor, self.depth)
@@ -73,7 +73,7 @@ impl<F: Fn(Global, &mut Cursor<'_>, u8) -> Result<TypeText, Refused>> Inner<F> {
 
     /// A type, put on the heap at once.
     fn boxed(&self, cursor: &mut Cursor<'_>) -> Result<Box<TypeText>, Refused>
-        requires { Nests (read.type self.now.depth) self.now.depth (F.pre self.now.type_text) (F.post self.now.type_text) }
+        requires { NestsType self.now.depth (F.pre self.now.type_text) (F.post self.now.type_text) }
         ensures { Reads (read.type self.now.depth cursor.old) result cursor.new }
     {
         let kind = self.type_text(cursor)?;
@@ -83,8 +83,9 @@ impl<F: Fn(Global, &mut Cursor<'_>, u8) -> Result<TypeText, Refused>> Inner<F> {
     /// `[type; count]`
     #[tactic(auto, unfolding(hl_grammar::specs::Read::type_form))]
     fn array(&self, cursor: &mut Cursor<'_>) -> Result<TypeForm, Refused>
-        requires { Nests (read.type self.now.depth) self.now.depth (F.pre self.now.type_text) (F.post self.now.type_text) }
-        ensures { Reads (read.type_form (read.type self.now.depth) TypeAlternative.Array cursor.old) result cursor.new }
+        requires { NestsType self.now.depth (F.pre self.now.type_text) (F.post self.now.type_text) }
+        ensures { Reads (read.type_form (read.type self.now.depth) TypeAlternative.Array cursor.old)
+            result cursor.new }
     {
         cursor.expect(Symbol::OpenBracket)?;
         let item = self.boxed(cursor)?;
@@ -97,8 +98,9 @@ impl<F: Fn(Global, &mut Cursor<'_>, u8) -> Result<TypeText, Refused>> Inner<F> {
     /// `List<type, count>`
     #[tactic(auto, unfolding(hl_grammar::specs::Read::type_form))]
     fn bounded_list(&self, cursor: &mut Cursor<'_>) -> Result<TypeForm, Refused>
-        requires { Nests (read.type self.now.depth) self.now.depth (F.pre self.now.type_text) (F.post self.now.type_text) }
-        ensures { Reads (read.type_form (read.type self.now.depth) TypeAlternative.List cursor.old) result cursor.new }
+        requires { NestsType self.now.depth (F.pre self.now.type_text) (F.post self.now.type_text) }
+        ensures { Reads (read.type_form (read.type self.now.depth) TypeAlternative.List cursor.old)
+            result cursor.new }
     {
         cursor.expect_word("List")?;
         cursor.expect(Symbol::Less)?;
@@ -112,8 +114,9 @@ impl<F: Fn(Global, &mut Cursor<'_>, u8) -> Result<TypeText, Refused>> Inner<F> {
     /// `Option<type>`
     #[tactic(auto, unfolding(hl_grammar::specs::Read::type_form))]
     fn option(&self, cursor: &mut Cursor<'_>) -> Result<TypeForm, Refused>
-        requires { Nests (read.type self.now.depth) self.now.depth (F.pre self.now.type_text) (F.post self.now.type_text) }
-        ensures { Reads (read.type_form (read.type self.now.depth) TypeAlternative.Option cursor.old) result cursor.new }
+        requires { NestsType self.now.depth (F.pre self.now.type_text) (F.post self.now.type_text) }
+        ensures { Reads (read.type_form (read.type self.now.depth) TypeAlternative.Option cursor.old)
+            result cursor.new }
     {
         cursor.expect_word("Option")?;
         cursor.expect(Symbol::Less)?;
@@ -125,8 +128,9 @@ impl<F: Fn(Global, &mut Cursor<'_>, u8) -> Result<TypeText, Refused>> Inner<F> {
     /// `Either<type, type>`
     #[tactic(auto, unfolding(hl_grammar::specs::Read::type_form))]
     fn either(&self, cursor: &mut Cursor<'_>) -> Result<TypeForm, Refused>
-        requires { Nests (read.type self.now.depth) self.now.depth (F.pre self.now.type_text) (F.post self.now.type_text) }
-        ensures { Reads (read.type_form (read.type self.now.depth) TypeAlternative.Either cursor.old) result cursor.new }
+        requires { NestsType self.now.depth (F.pre self.now.type_text) (F.post self.now.type_text) }
+        ensures { Reads (read.type_form (read.type self.now.depth) TypeAlternative.Either cursor.old)
+            result cursor.new }
     {
         cursor.expect_word("Either")?;
         cursor.expect(Symbol::Less)?;
@@ -143,8 +147,9 @@ impl<F: Fn(Global, &mut Cursor<'_>, u8) -> Result<TypeText, Refused>> Inner<F> {
         cursor: &mut Cursor<'_>,
         alternative: TypeAlternative,
     ) -> Result<TypeForm, Refused>
-        requires { Nests (read.type self.now.depth) self.now.depth (F.pre self.now.type_text) (F.post self.now.type_text) }
-        ensures { Reads (read.type_form (read.type self.now.depth) alternative cursor.old) result cursor.new }
+        requires { NestsType self.now.depth (F.pre self.now.type_text) (F.post self.now.type_text) }
+        ensures { Reads (read.type_form (read.type self.now.depth) alternative cursor.old)
+            result cursor.new }
     {
         match alternative {
             TypeAlternative::Array => self.array(cursor),
@@ -157,8 +162,9 @@ impl<F: Fn(Global, &mut Cursor<'_>, u8) -> Result<TypeText, Refused>> Inner<F> {
 
     #[tactic(auto, using(hl_cursor::proofs::Turns::turn, hl_cursor::proofs::Turns::over))]
     fn list(&self, cursor: &mut Cursor<'_>, close: Symbol) -> Result<Listed<TypeText>, Refused>
-        requires { Nests (read.type self.now.depth) self.now.depth (F.pre self.now.type_text) (F.post self.now.type_text) }
-        ensures { Gives listed_of (read.many close (read.type self.now.depth) cursor.old) result cursor.new }
+        requires { NestsType self.now.depth (F.pre self.now.type_text) (F.post self.now.type_text) }
+        ensures { Gives listed_of (read.many close (read.type self.now.depth) cursor.old)
+            result cursor.new }
     {
         let mut items = TypeTexts::new(self.alloc);
         for _turn in 0..cursor.turns() {
@@ -182,8 +188,10 @@ impl<F: Fn(Global, &mut Cursor<'_>, u8) -> Result<TypeText, Refused>> Inner<F> {
 
     #[tactic(auto, unfolding(hl_grammar::specs::Read::parenthesised))]
     fn parenthesised(&self, cursor: &mut Cursor<'_>) -> Result<TypeText, Refused>
-        requires { Nests (read.type self.now.depth) self.now.depth (F.pre self.now.type_text) (F.post self.now.type_text) }
-        ensures { Reads (read.parenthesised (λ ts. type_of (TypeForm.Tuple ts)) (read.type self.now.depth) cursor.old) result cursor.new }
+        requires { NestsType self.now.depth (F.pre self.now.type_text) (F.post self.now.type_text) }
+        ensures { Reads
+            (read.parenthesised (λ ts. type_of (TypeForm.Tuple ts)) (read.type self.now.depth) cursor.old)
+            result cursor.new }
     {
         let first = cursor.tokens();
         cursor.expect(Symbol::OpenParenthesis)?;
@@ -200,7 +208,7 @@ impl<F: Fn(Global, &mut Cursor<'_>, u8) -> Result<TypeText, Refused>> Inner<F> {
 
     #[tactic(auto, unfolding(hl_grammar::specs::Read::type_level))]
     fn level(&self, cursor: &mut Cursor<'_>) -> Result<TypeText, Refused>
-        requires { Nests (read.type self.now.depth) self.now.depth (F.pre self.now.type_text) (F.post self.now.type_text) }
+        requires { NestsType self.now.depth (F.pre self.now.type_text) (F.post self.now.type_text) }
         ensures { Reads (read.type_level (read.type self.now.depth) cursor.old) result cursor.new }
     {
         if cursor.is_at(Symbol::OpenParenthesis) {

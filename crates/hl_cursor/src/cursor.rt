@@ -312,7 +312,8 @@ pub fn is_keyword(word: &str) -> bool
 
 /// Whether a word before `(` is a call's name.
 fn is_call_name(word: &str) -> bool
-    ensures { result ≡ if is_among keywords word.now then false else not (is_among applied_words word.now) }
+    ensures { result
+        ≡ if is_among keywords word.now then false else not (is_among applied_words word.now) }
 {
     !(is_keyword(word) || word == "unwrap" || word == "Left" || word == "Right" || word == "Some")
 }

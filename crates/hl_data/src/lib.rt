@@ -10,6 +10,3 @@ pub use typed::{
     TypedStatement, TypedStatements,
 };
 pub use value::{Entries, Entry, HlValue, HlValues, Names};
-
-#[cfg(test)]
-mod tests;

@@ -22,7 +22,8 @@ pub fn eval(
     witness: &Entries,
 ) -> Result<HlValue, EvalRefusal>
     requires fits { FitsCall program.now function.now argument.now (bindings_of witness.now) }
-    ensures answer { IsEvaluated (meaning program.now.functions function.now (bindings_of witness.now) argument.now) result }
+    ensures answer { IsEvaluated
+        (meaning program.now.functions function.now (bindings_of witness.now) argument.now) result }
     ensures of_result { IfOk result (λ value. IsResultOf program.now function.now value) }
 {
     program.breaks_nothing();

@@ -30,7 +30,10 @@ impl Evaluator<'_> {
 
     /// The place of the function that a name means.
     pub(crate) fn place_named(&self, name: &str) -> Result<usize, EvalFault>
-        ensures { MatchResult result (λ place. IsPlaceOf self.now name.now place) (λ e. (e ≡ NoAnswer) × (function_of (functions_in self.now) (witness_in self.now) name.now ≡ None)) }
+        ensures { MatchResult result
+            (λ place. IsPlaceOf self.now name.now place)
+            (λ e. (e ≡ NoAnswer)
+            × (function_of (functions_in self.now) (witness_in self.now) name.now ≡ None)) }
     {
         match position_of(self.functions, name) {
             Some(place) => Ok(place),
@@ -40,7 +43,10 @@ impl Evaluator<'_> {
 
     /// The place of the function that a name of a source text means.
     pub(crate) fn place_of(&self, name: &Text) -> Result<usize, EvalFault>
-        ensures { MatchResult result (λ place. IsPlaceOf self.now name.now place) (λ e. (e ≡ NoAnswer) × (function_of (functions_in self.now) (witness_in self.now) name.now ≡ None)) }
+        ensures { MatchResult result
+            (λ place. IsPlaceOf self.now name.now place)
+            (λ e. (e ≡ NoAnswer)
+            × (function_of (functions_in self.now) (witness_in self.now) name.now ≡ None)) }
     {
         self.place_named(name.as_str())
     }

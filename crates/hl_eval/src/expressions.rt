@@ -91,7 +91,8 @@ impl Evaluator<'_> {
         part: &TypedExpr,
         scope: &mut Scope,
     ) -> Result<HlValue, EvalFault>
-        ensures value { Answers (and_then (mean_in self.now part.now scope.old) (converted from.now to.now)) result }
+        ensures value { Answers
+            (and_then (mean_in self.now part.now scope.old) (converted from.now to.now)) result }
         ensures scope { IfOk result (λ _. scope.new ≡ scope.old) }
     {
         let value = self.expression(part, scope)?;
@@ -106,7 +107,9 @@ impl Evaluator<'_> {
         parts: &TypedExprs,
         scope: &mut Scope,
     ) -> Result<HlValue, EvalFault>
-        ensures value { Answers (and_then (all_in (map (mean_in self.now) parts.now) scope.old) (gathered_of self.now how.entry)) result }
+        ensures value { Answers
+            (and_then (all_in (map (mean_in self.now) parts.now) scope.old) (gathered_of self.now how.entry))
+            result }
         ensures scope { IfOk result (λ _. scope.new ≡ scope.old) }
     {
         let values = self.parts(parts, scope)?;
@@ -132,7 +135,10 @@ impl Evaluator<'_> {
         start: &TypedExpr,
         scope: &mut Scope,
     ) -> Result<HlValue, EvalFault>
-        ensures value { Answers (loop_over (functions_in self.now) (witness_in self.now) (items_in from) name.now (mean_in self.now items.now) (mean_in self.now start.now) scope.old) result }
+        ensures value { Answers
+            (loop_over (functions_in self.now) (witness_in self.now) (items_in from) name.now
+            (mean_in self.now items.now) (mean_in self.now start.now) scope.old)
+            result }
         ensures scope { IfOk result (λ _. scope.new ≡ scope.old) }
     {
         let place = self.place_of(name)?;
@@ -151,7 +157,10 @@ impl Evaluator<'_> {
         context: &TypedExpr,
         scope: &mut Scope,
     ) -> Result<HlValue, EvalFault>
-        ensures value { Answers (counting_loop (functions_in self.now) (witness_in self.now) name.now (mean_in self.now start.now) (mean_in self.now context.now) scope.old) result }
+        ensures value { Answers
+            (counting_loop (functions_in self.now) (witness_in self.now) name.now
+            (mean_in self.now start.now) (mean_in self.now context.now) scope.old)
+            result }
         ensures scope { IfOk result (λ _. scope.new ≡ scope.old) }
     {
         let place = self.place_of(name)?;
@@ -182,7 +191,10 @@ impl Evaluator<'_> {
         last: &Option<Boxed<TypedExpr>>,
         scope: &mut Scope,
     ) -> Result<HlValue, EvalFault>
-        ensures value { Answers (block_of (map (mean_statement (functions_in self.now) (witness_in self.now)) statements.now) (option_map (mean_in self.now) last.now) scope.old) result }
+        ensures value { Answers
+            (block_of (map (mean_statement (functions_in self.now) (witness_in self.now)) statements.now)
+            (option_map (mean_in self.now) last.now) scope.old)
+            result }
         ensures scope { IfOk result (λ _. scope.new ≡ scope.old) }
     {
         let mark = scope.len();
@@ -209,7 +221,8 @@ impl Evaluator<'_> {
     /// Does a statement.
     #[cycle(evaluation)]
     fn statement(&self, statement: &TypedStatement, scope: &mut Scope) -> Result<(), EvalFault>
-        ensures { Goes (mean_statement (functions_in self.now) (witness_in self.now) statement.now) scope.old result scope.new }
+        ensures { Goes (mean_statement (functions_in self.now) (witness_in self.now) statement.now)
+            scope.old result scope.new }
     {
         match statement {
             TypedStatement::Let { pattern, value, .. } => {
@@ -231,7 +244,11 @@ impl Evaluator<'_> {
         arms: &TypedArms,
         scope: &mut Scope,
     ) -> Result<HlValue, EvalFault>
-        ensures value { Answers (and_then (mean_in self.now part.now scope.old) (λ v. matched (map (mean_arm (functions_in self.now) (witness_in self.now)) arms.now) (out-HlValue v) scope.old)) result }
+        ensures value { Answers
+            (and_then (mean_in self.now part.now scope.old) (λ v.
+            matched (map (mean_arm (functions_in self.now) (witness_in self.now)) arms.now)
+            (out-HlValue v) scope.old))
+            result }
         ensures scope { IfOk result (λ _. scope.new ≡ scope.old) }
     {
         let value = self.expression(part, scope)?;
@@ -247,7 +264,10 @@ impl Evaluator<'_> {
     #[cycle(evaluation)]
     fn arm(&self, arm: &TypedArm, value: HlValue, scope: &mut Scope) -> Result<HlValue, EvalFault>
         requires { IsTrue (is_some (taken (out-TypedArm arm.now).side (out-HlValue value))) }
-        ensures value { Answers (or_after (taken (out-TypedArm arm.now).side (out-HlValue value)) (mean_in self.now (out-TypedArm arm.now).body) stuck scope.old) result }
+        ensures value { Answers
+            (or_after (taken (out-TypedArm arm.now).side (out-HlValue value))
+            (mean_in self.now (out-TypedArm arm.now).body) stuck scope.old)
+            result }
         ensures scope { IfOk result (λ _. scope.new ≡ scope.old) }
     {
         let mark = scope.len();
@@ -299,7 +319,8 @@ impl Evaluator<'_> {
     ) -> Result<HlValue, EvalFault>
         requires place { place < length self.now.functions.now }
         requires width { IsTrue (is_counter_width width) }
-        ensures { ForFunction self.now place (λ f. Answers (counted f.run width context.now (2 ^ width) 0 start) result) }
+        ensures { ForFunction self.now place (λ f.
+            Answers (counted f.run width context.now (2 ^ width) 0 start) result) }
     {
         let mut made = start;
         'turns: for counter in 0..1u32 << width {
@@ -322,7 +343,9 @@ impl Evaluator<'_> {
         counter: HlValue,
     ) -> Result<Turn, EvalFault>
         requires { place < length self.now.functions.now }
-        ensures { ForFunction self.now place (λ f. Answers (and_then (f.run (made ∷ context.now ∷ counter ∷ [])) (λ v. turned (out-HlValue v))) result) }
+        ensures { ForFunction self.now place (λ f. Answers
+            (and_then (f.run (made ∷ context.now ∷ counter ∷ [])) (λ v. turned (out-HlValue v)))
+            result) }
     {
         let context = copy_value(self.alloc, context)?;
         turned(self.run(place, three(self.alloc, made, context, counter)?)?)

@@ -39,7 +39,9 @@ pub(crate) fn call_jet(
 
 /// The results of a jet, where it didn't fail.
 fn results_in(alloc: Global, answer: JetAnswer) -> Result<Vec<Word>, EvalFault>
-    ensures { MatchResult result (λ words. results_of answer ≡ Some words.items) (λ e. IsFailing (results_of answer) e) }
+    ensures { MatchResult result
+        (λ words. results_of answer ≡ Some words.items)
+        (λ e. IsFailing (results_of answer) e) }
 {
     let mut words = Vec::new(alloc);
     match answer {
@@ -102,7 +104,10 @@ fn result_of(values: HlValues) -> HlValue
 
 /// A value as a word of a jet's type; a truth value is a bit.
 fn word_of(kind: JetKind, value: &HlValue) -> Option<Word>
-    ensures { MatchOption result (number_at (kind_of kind) (out-HlValue value.now) ≡ None) (λ w. (number_at (kind_of kind) (out-HlValue value.now) ≡ Some w.number) × (w.width ≡ width_of (kind_of kind))) }
+    ensures { MatchOption result
+        (number_at (kind_of kind) (out-HlValue value.now) ≡ None)
+        (λ w. (number_at (kind_of kind) (out-HlValue value.now) ≡ Some w.number)
+        × (w.width ≡ width_of (kind_of kind))) }
 {
     match kind {
         JetKind::Bool => match value {
@@ -122,7 +127,9 @@ fn words_of(
     kinds: &[Option<JetKind>],
     arguments: &[HlValue],
 ) -> Result<Vec<Word>, EvalFault>
-    ensures { MatchResult result (λ words. AreWords (kinds_of kinds.now) arguments.now words.items) (λ e. IsUnlike (kinds_of kinds.now) arguments.now e) }
+    ensures { MatchResult result
+        (λ words. AreWords (kinds_of kinds.now) arguments.now words.items)
+        (λ e. IsUnlike (kinds_of kinds.now) arguments.now e) }
 {
     let mut words = Vec::new(alloc);
     'kinds: for kind in kinds {

@@ -72,7 +72,9 @@ impl Scope {
 
     /// The value that a name means.
     pub(crate) fn find(&self, name: &Text) -> Option<&HlValue>
-        ensures { MatchOption result (meant name.now self.now ≡ None) (λ v. meant name.now self.now ≡ Some v.now) }
+        ensures { MatchOption result
+            (meant name.now self.now ≡ None)
+            (λ v. meant name.now self.now ≡ Some v.now) }
     {
         match last_of(self.bindings.as_slice(), name.as_str()) {
             Some(bound) => Some(&bound.value),

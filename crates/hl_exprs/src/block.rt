@@ -8,9 +8,8 @@ ghost use Rattle.hl_syntax.specs.declared.tree.ExprForm.{ExprForm};
 ghost use Rattle.simplicityhl.specs.Grammar.{opens_block};
 ghost use Rattle.hl_grammar.specs.Readers.{Reader};
 ghost use Rattle.hl_grammar.specs.Read as read;
-ghost use Rattle.hl_operands.specs.Exprs.{within, arm_of, statements, more_arms};
+ghost use Rattle.hl_operands.specs.Exprs.{part_in, form_in, NestsIn, arm_of, statements, more_arms};
 ghost use Rattle.hl_cursor.specs.Gives.{Gives, Reads, Turned};
-ghost use Rattle.hl_cursor.specs.Nests.{Nests};
 
 use hl_bindings::{pattern, side, type_text};
 use hl_cursor::{Cursor, Refused, Turn};
@@ -26,8 +25,8 @@ fn let_statement<F: Fn(Global, &mut Cursor<'_>, u8) -> Result<Expr, Refused>>(
     inner: &Inner<F>,
     cursor: &mut Cursor<'_>,
 ) -> Result<Statement, Refused>
-    requires { Nests (read.expr_of_only inner.now.values_only inner.now.depth) inner.now.depth (F.pre inner.now.expr) (F.post inner.now.expr) }
-    ensures { Reads (within read.let_statement inner.now.values_only inner.now.depth cursor.old) result cursor.new }
+    requires { NestsIn inner.now (F.pre inner.now.expr) (F.post inner.now.expr) }
+    ensures { Reads (part_in inner.now read.let_statement cursor.old) result cursor.new }
 {
     let first = cursor.tokens();
     cursor.expect_word("let")?;
@@ -51,9 +50,10 @@ fn block_turn<F: Fn(Global, &mut Cursor<'_>, u8) -> Result<Expr, Refused>>(
     cursor: &mut Cursor<'_>,
     found: &mut Statements,
 ) -> Result<Turn<Option<Box<Expr>>>, Refused>
-    requires { Nests (read.expr_of_only inner.now.values_only inner.now.depth) inner.now.depth (F.pre inner.now.expr) (F.post inner.now.expr) }
+    requires { NestsIn inner.now (F.pre inner.now.expr) (F.post inner.now.expr) }
     ensures { (more : List Statement → Reader ExprForm) →
-        Turned more (λ last. ExprForm.Block found.new last) (within read.block_turn inner.now.values_only inner.now.depth more found.old cursor.old) found.new result cursor.new }
+        Turned more (λ last. ExprForm.Block found.new last)
+        (part_in inner.now read.block_turn more found.old cursor.old) found.new result cursor.new }
 {
     if cursor.take_if(Symbol::CloseBrace) {
         return Ok(Turn::Last(None));
@@ -79,8 +79,8 @@ pub(crate) fn block<F: Fn(Global, &mut Cursor<'_>, u8) -> Result<Expr, Refused>>
     inner: &Inner<F>,
     cursor: &mut Cursor<'_>,
 ) -> Result<ExprForm, Refused>
-    requires { Nests (read.expr_of_only inner.now.values_only inner.now.depth) inner.now.depth (F.pre inner.now.expr) (F.post inner.now.expr) }
-    ensures { Reads (within read.block inner.now.values_only inner.now.depth cursor.old) result cursor.new }
+    requires { NestsIn inner.now (F.pre inner.now.expr) (F.post inner.now.expr) }
+    ensures { Reads (part_in inner.now read.block cursor.old) result cursor.new }
 {
     cursor.expect(Symbol::OpenBrace)?;
     statements(inner, cursor)
@@ -91,8 +91,8 @@ fn statements<F: Fn(Global, &mut Cursor<'_>, u8) -> Result<Expr, Refused>>(
     inner: &Inner<F>,
     cursor: &mut Cursor<'_>,
 ) -> Result<ExprForm, Refused>
-    requires { Nests (read.expr_of_only inner.now.values_only inner.now.depth) inner.now.depth (F.pre inner.now.expr) (F.post inner.now.expr) }
-    ensures { Reads (within statements inner.now.values_only inner.now.depth cursor.old) result cursor.new }
+    requires { NestsIn inner.now (F.pre inner.now.expr) (F.post inner.now.expr) }
+    ensures { Reads (part_in inner.now statements cursor.old) result cursor.new }
 {
     let mut found = Statements::new(inner.alloc);
     for _turn in 0..cursor.turns() {
@@ -110,8 +110,8 @@ fn arm<F: Fn(Global, &mut Cursor<'_>, u8) -> Result<Expr, Refused>>(
     inner: &Inner<F>,
     cursor: &mut Cursor<'_>,
 ) -> Result<(Side, Expr, bool), Refused>
-    requires { Nests (read.expr_of_only inner.now.values_only inner.now.depth) inner.now.depth (F.pre inner.now.expr) (F.post inner.now.expr) }
-    ensures { Gives arm_of (within read.arm inner.now.values_only inner.now.depth cursor.old) result cursor.new }
+    requires { NestsIn inner.now (F.pre inner.now.expr) (F.post inner.now.expr) }
+    ensures { Gives arm_of (part_in inner.now read.arm cursor.old) result cursor.new }
 {
     let side = side(inner.alloc, cursor, inner.depth)?;
     cursor.expect(Symbol::FatArrow)?;
@@ -126,9 +126,10 @@ fn arms_turn<F: Fn(Global, &mut Cursor<'_>, u8) -> Result<Expr, Refused>>(
     cursor: &mut Cursor<'_>,
     found: &mut Arms,
 ) -> Result<Turn<()>, Refused>
-    requires { Nests (read.expr_of_only inner.now.values_only inner.now.depth) inner.now.depth (F.pre inner.now.expr) (F.post inner.now.expr) }
+    requires { NestsIn inner.now (F.pre inner.now.expr) (F.post inner.now.expr) }
     ensures { (more : List Arm → Reader (List Arm)) →
-        Turned more (λ _. found.new) (within read.arms_turn inner.now.values_only inner.now.depth more found.old cursor.old) found.new result cursor.new }
+        Turned more (λ _. found.new)
+        (part_in inner.now read.arms_turn more found.old cursor.old) found.new result cursor.new }
 {
     if cursor.take_if(Symbol::CloseBrace) {
         return Ok(Turn::Last(()));
@@ -151,8 +152,8 @@ fn arms<F: Fn(Global, &mut Cursor<'_>, u8) -> Result<Expr, Refused>>(
     inner: &Inner<F>,
     cursor: &mut Cursor<'_>,
 ) -> Result<Arms, Refused>
-    requires { Nests (read.expr_of_only inner.now.values_only inner.now.depth) inner.now.depth (F.pre inner.now.expr) (F.post inner.now.expr) }
-    ensures { Reads (within read.arms inner.now.values_only inner.now.depth cursor.old) result cursor.new }
+    requires { NestsIn inner.now (F.pre inner.now.expr) (F.post inner.now.expr) }
+    ensures { Reads (part_in inner.now read.arms cursor.old) result cursor.new }
 {
     cursor.expect(Symbol::OpenBrace)?;
     more_arms(inner, cursor)
@@ -163,8 +164,8 @@ fn more_arms<F: Fn(Global, &mut Cursor<'_>, u8) -> Result<Expr, Refused>>(
     inner: &Inner<F>,
     cursor: &mut Cursor<'_>,
 ) -> Result<Arms, Refused>
-    requires { Nests (read.expr_of_only inner.now.values_only inner.now.depth) inner.now.depth (F.pre inner.now.expr) (F.post inner.now.expr) }
-    ensures { Reads (within more_arms inner.now.values_only inner.now.depth cursor.old) result cursor.new }
+    requires { NestsIn inner.now (F.pre inner.now.expr) (F.post inner.now.expr) }
+    ensures { Reads (part_in inner.now more_arms cursor.old) result cursor.new }
 {
     let mut found = Arms::new(inner.alloc);
     for _turn in 0..cursor.turns() {
@@ -182,8 +183,8 @@ pub(crate) fn match_form<F: Fn(Global, &mut Cursor<'_>, u8) -> Result<Expr, Refu
     inner: &Inner<F>,
     cursor: &mut Cursor<'_>,
 ) -> Result<ExprForm, Refused>
-    requires { Nests (read.expr_of_only inner.now.values_only inner.now.depth) inner.now.depth (F.pre inner.now.expr) (F.post inner.now.expr) }
-    ensures { Reads (within read.expr_form inner.now.values_only inner.now.depth ExprAlternative.Match cursor.old) result cursor.new }
+    requires { NestsIn inner.now (F.pre inner.now.expr) (F.post inner.now.expr) }
+    ensures { Reads (form_in inner.now ExprAlternative.Match cursor.old) result cursor.new }
 {
     cursor.expect_word("match")?;
     let value = inner.boxed(cursor)?;

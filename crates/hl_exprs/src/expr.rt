@@ -4,9 +4,8 @@ ghost use Rattle.std.specs.Prelude.{◌≡◌, true, false};
 ghost use Rattle.simplicityhl.specs.Grammar.{expr_of};
 ghost use Rattle.hl_grammar.specs.Readers.{brink};
 ghost use Rattle.hl_grammar.specs.Read as read;
-ghost use Rattle.hl_operands.specs.Exprs.{within};
+ghost use Rattle.hl_operands.specs.Exprs.{part_in, form_in, NestsIn};
 ghost use Rattle.hl_cursor.specs.Gives.{Gives, Reads};
-ghost use Rattle.hl_cursor.specs.Nests.{Nests};
 
 use crate::block::{block, match_form};
 use hl_cursor::{Cursor, Refused};
@@ -23,8 +22,8 @@ fn form<F: Fn(Global, &mut Cursor<'_>, u8) -> Result<Expr, Refused>>(
     cursor: &mut Cursor<'_>,
     alternative: ExprAlternative,
 ) -> Result<ExprForm, Refused>
-    requires { Nests (read.expr_of_only inner.now.values_only inner.now.depth) inner.now.depth (F.pre inner.now.expr) (F.post inner.now.expr) }
-    ensures { Reads (within read.expr_form inner.now.values_only inner.now.depth alternative cursor.old) result cursor.new }
+    requires { NestsIn inner.now (F.pre inner.now.expr) (F.post inner.now.expr) }
+    ensures { Reads (form_in inner.now alternative cursor.old) result cursor.new }
 {
     match alternative {
         ExprAlternative::Block => block(inner, cursor),
@@ -63,8 +62,8 @@ pub(crate) fn level<F: Fn(Global, &mut Cursor<'_>, u8) -> Result<Expr, Refused>>
     inner: &Inner<F>,
     cursor: &mut Cursor<'_>,
 ) -> Result<Expr, Refused>
-    requires { Nests (read.expr_of_only inner.now.values_only inner.now.depth) inner.now.depth (F.pre inner.now.expr) (F.post inner.now.expr) }
-    ensures { Reads (within read.expr_level inner.now.values_only inner.now.depth inner.now.values_only cursor.old) result cursor.new }
+    requires { NestsIn inner.now (F.pre inner.now.expr) (F.post inner.now.expr) }
+    ensures { Reads (part_in inner.now read.expr_level inner.now.values_only cursor.old) result cursor.new }
 {
     if cursor.is_at(Symbol::OpenParenthesis) {
         return inner.parenthesised(cursor);

@@ -12,8 +12,6 @@ mod named;
 mod object;
 mod params;
 mod refusal;
-#[cfg(test)]
-mod tests;
 mod texts;
 
 pub use asked::read_wanted;

@@ -1,8 +1,8 @@
 ghost use Rattle.std.specs.Prelude.{◌≡◌, ◌<◌, ◌≤◌, ◌+◌, length, IfOk, [], ◌∷◌};
 ghost use Rattle.std.specs.List.{prefix_len};
-ghost use Rattle.std.specs.Prelude.{IsUtf8, IfSome, drop, take, take_while};
+ghost use Rattle.std.specs.Prelude.{IsUtf8, IfSome, drop};
 ghost use Rattle.simplicityhl.specs.Tokens.{is_white_space, is_word_byte, is_no_line_feed, closer_end, block_comment, character_size, word_reading, number_reading, begins_with_digit, symbol_of, symbol_front, front};
-ghost use Rattle.hl_lex.specs.Seen.{reading_of, front_of};
+ghost use Rattle.hl_lex.specs.Seen.{reading_of, front_of, word_front};
 
 use crate::literal::{decimal_fits, is_binary, is_decimal, is_hexadecimal};
 use crate::symbol::{symbol_at, symbol_size};
@@ -134,7 +134,7 @@ fn comment(text: &[u8]) -> Front
 
 /// The word at the front of a text.
 fn word(alloc: Global, text: &[u8]) -> Result<Front, AllocError>
-    ensures found { IfOk result (λ found. front_of found ≡ record { reading = word_reading (take_while is_word_byte text.now); size = prefix_len is_word_byte text.now }) }
+    ensures found { IfOk result (λ found. front_of found ≡ word_front text.now) }
     ensures within { IfOk result (λ found. found.size ≤ length text.now) }
 {
     let size = word_size(text);

@@ -28,8 +28,11 @@ fn step(alloc: Global, text: &[u8], at: usize, found: &mut TokenList) -> Result<
     requires { at < length text.now }
     ensures onward { IfOk result (λ next. at < next) }
     ensures within { IfOk result (λ next. next ≤ length text.now) }
-    ensures read { IfOk result (λ next. tokens_then found.old (tokens_after 0 at (drop at text.now)) ≡ tokens_then found.new (tokens_after 0 next (drop next text.now))) }
-    ensures refused { IfErr result (λ refusal. IsRefusalOf (tokens_after 0 at (drop at text.now)) refusal) }
+    ensures read { IfOk result (λ next.
+        tokens_then found.old (tokens_after 0 at (drop at text.now))
+        ≡ tokens_then found.new (tokens_after 0 next (drop next text.now))) }
+    ensures refused { IfErr result (λ refusal.
+        IsRefusalOf (tokens_after 0 at (drop at text.now)) refusal) }
 {
     let (_, rest) = text.split_at(at);
     let front = read_front(alloc, rest)?;
@@ -58,6 +61,3 @@ fn refusal(fault: Fault, span: Span) -> LexRefusal
         Fault::LiteralTooLarge => LexRefusal::LiteralTooLarge { span },
     }
 }
-
-#[cfg(test)]
-mod tests;

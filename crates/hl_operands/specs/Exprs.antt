@@ -1,5 +1,8 @@
 -- Parts of an expression.
-use Rattle.std.specs.Prelude.{ℕ, Bool, List, []}
+use Rattle.std.specs.Prelude.{ℕ, Bool, List, [], Result}
+use Rattle.std.specs.declared.alloc.Global.{Global}
+use denote.Ref.{MutBor}
+use Rattle.hl_syntax.specs.declared.token.Token.{Token}
 use Rattle.hl_syntax.specs.declared.token.Mark.{Mark}
 use Rattle.hl_syntax.specs.declared.token.Span.{Span}
 use Rattle.hl_syntax.specs.declared.token.Symbol.TheVariants.{CloseParenthesis, Comma, Exclamation}
@@ -9,6 +12,10 @@ use Rattle.hl_syntax.specs.declared.tree.Side.{Side}
 use Rattle.hl_syntax.specs.declared.tree.Arm.{Arm}
 use Rattle.hl_syntax.specs.declared.tree.Expr.{Expr}
 use Rattle.hl_syntax.specs.declared.tree.ExprForm.{ExprForm}
+use Rattle.simplicityhl.specs.declared.alternatives.ExprAlternative.{ExprAlternative}
+use Rattle.hl_cursor.specs.declared.refused.Refused.{Refused}
+use Rattle.hl_cursor.specs.Nests.{Nests}
+use Rattle.hl_operands.specs.declared.inner.Inner.{Inner}
 use Rattle.hl_grammar.specs.Readers.{Reader, done, ◌>>=◌, ◌>>◌, choose, turning}
 use Rattle.hl_grammar.specs.Read.{is_at, symbol, word, in_parentheses, type_argument, path_name, counted_function, two_arguments, block_turn, arms_turn}
 use Rattle.hl_grammar.specs.Read as read
@@ -16,6 +23,20 @@ use Rattle.hl_grammar.specs.Read as read
 -- a part of an expression, by what the expressions, types and patterns in it are
 abbrev pub within : {A : Type 0} → (Reader Expr → Reader TypeText → Reader Pattern → A) → Bool → ℕ → A
 within part values_only depth = part (read.expr_of_only values_only depth) (read.type depth) (read.pattern depth)
+
+-- the expressions in an expression, a part of it, and its form by its alternative, as its `Inner` says
+abbrev pub expr_in : {F : Type 0} → Inner F → Reader Expr
+expr_in inner = read.expr_of_only inner.values_only inner.depth
+
+abbrev pub part_in : {F A : Type 0} → Inner F → (Reader Expr → Reader TypeText → Reader Pattern → A) → A
+part_in inner part = within part inner.values_only inner.depth
+
+abbrev pub form_in : {F : Type 0} → Inner F → ExprAlternative → Reader ExprForm
+form_in inner alternative = within read.expr_form inner.values_only inner.depth alternative
+
+-- a function value that reads the expressions in an expression
+abbrev pub NestsIn : {F : Type 0} → Inner F → (Global → MutBor (List Token) → ℕ → Type 0) → (Global → MutBor (List Token) → ℕ → Result Expr Refused → MutBor (List Token) → Type 0) → Type 0
+NestsIn inner pre post = Nests (expr_in inner) inner.depth pre post
 
 -- `)`, with or without a comma before it
 abbrev pub closed : {A : Type 0} → A → Reader A

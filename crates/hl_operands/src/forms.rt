@@ -1,10 +1,8 @@
 //! Forms of one word, alone or with what stands after it.
 
 ghost use Rattle.std.specs.Prelude.{◌≡◌};
-ghost use Rattle.hl_grammar.specs.Read as read;
-ghost use Rattle.hl_operands.specs.Exprs.{within};
+ghost use Rattle.hl_operands.specs.Exprs.{form_in, NestsIn};
 ghost use Rattle.hl_cursor.specs.Gives.{Gives, Reads};
-ghost use Rattle.hl_cursor.specs.Nests.{Nests};
 
 use crate::inner::Inner;
 use hl_bindings::type_text;
@@ -17,8 +15,8 @@ impl<F: Fn(Global, &mut Cursor<'_>, u8) -> Result<Expr, Refused>> Inner<F> {
     /// `list![expr, ..]`
     #[tactic(auto, unfolding(hl_grammar::specs::Read::expr_form))]
     pub fn list_form(&self, cursor: &mut Cursor<'_>) -> Result<ExprForm, Refused>
-        requires { Nests (read.expr_of_only self.now.values_only self.now.depth) self.now.depth (F.pre self.now.expr) (F.post self.now.expr) }
-        ensures { Reads (within read.expr_form self.now.values_only self.now.depth ExprAlternative.List cursor.old) result cursor.new }
+        requires { NestsIn self.now (F.pre self.now.expr) (F.post self.now.expr) }
+        ensures { Reads (form_in self.now ExprAlternative.List cursor.old) result cursor.new }
     {
         cursor.expect_word("list")?;
         cursor.expect(Symbol::Exclamation)?;
@@ -28,7 +26,7 @@ impl<F: Fn(Global, &mut Cursor<'_>, u8) -> Result<Expr, Refused>> Inner<F> {
     /// `panic!()`
     #[tactic(auto, unfolding(hl_grammar::specs::Read::expr_form))]
     pub fn panic_form(&self, cursor: &mut Cursor<'_>) -> Result<ExprForm, Refused>
-        ensures { Reads (within read.expr_form self.now.values_only self.now.depth ExprAlternative.Panic cursor.old) result cursor.new }
+        ensures { Reads (form_in self.now ExprAlternative.Panic cursor.old) result cursor.new }
     {
         cursor.expect_word("panic")?;
         cursor.expect(Symbol::Exclamation)?;
@@ -40,7 +38,7 @@ impl<F: Fn(Global, &mut Cursor<'_>, u8) -> Result<Expr, Refused>> Inner<F> {
     /// `None`
     #[tactic(auto, unfolding(hl_grammar::specs::Read::expr_form))]
     pub fn nothing_form(&self, cursor: &mut Cursor<'_>) -> Result<ExprForm, Refused>
-        ensures { Reads (within read.expr_form self.now.values_only self.now.depth ExprAlternative.Nothing cursor.old) result cursor.new }
+        ensures { Reads (form_in self.now ExprAlternative.Nothing cursor.old) result cursor.new }
     {
         cursor.expect_word("None")?;
         Ok(ExprForm::Nothing)
@@ -49,7 +47,7 @@ impl<F: Fn(Global, &mut Cursor<'_>, u8) -> Result<Expr, Refused>> Inner<F> {
     /// `true`
     #[tactic(auto, unfolding(hl_grammar::specs::Read::expr_form))]
     pub fn true_form(&self, cursor: &mut Cursor<'_>) -> Result<ExprForm, Refused>
-        ensures { Reads (within read.expr_form self.now.values_only self.now.depth ExprAlternative.True cursor.old) result cursor.new }
+        ensures { Reads (form_in self.now ExprAlternative.True cursor.old) result cursor.new }
     {
         cursor.expect_word("true")?;
         Ok(ExprForm::True)
@@ -58,7 +56,7 @@ impl<F: Fn(Global, &mut Cursor<'_>, u8) -> Result<Expr, Refused>> Inner<F> {
     /// `false`
     #[tactic(auto, unfolding(hl_grammar::specs::Read::expr_form))]
     pub fn false_form(&self, cursor: &mut Cursor<'_>) -> Result<ExprForm, Refused>
-        ensures { Reads (within read.expr_form self.now.values_only self.now.depth ExprAlternative.False cursor.old) result cursor.new }
+        ensures { Reads (form_in self.now ExprAlternative.False cursor.old) result cursor.new }
     {
         cursor.expect_word("false")?;
         Ok(ExprForm::False)
@@ -67,8 +65,8 @@ impl<F: Fn(Global, &mut Cursor<'_>, u8) -> Result<Expr, Refused>> Inner<F> {
     /// `jet::name(expr, ..)`
     #[tactic(auto, unfolding(hl_grammar::specs::Read::expr_form, hl_grammar::specs::Read::path_name))]
     pub fn jet_form(&self, cursor: &mut Cursor<'_>) -> Result<ExprForm, Refused>
-        requires { Nests (read.expr_of_only self.now.values_only self.now.depth) self.now.depth (F.pre self.now.expr) (F.post self.now.expr) }
-        ensures { Reads (within read.expr_form self.now.values_only self.now.depth ExprAlternative.Jet cursor.old) result cursor.new }
+        requires { NestsIn self.now (F.pre self.now.expr) (F.post self.now.expr) }
+        ensures { Reads (form_in self.now ExprAlternative.Jet cursor.old) result cursor.new }
     {
         cursor.expect_word("jet")?;
         cursor.expect(Symbol::DoubleColon)?;
@@ -80,8 +78,8 @@ impl<F: Fn(Global, &mut Cursor<'_>, u8) -> Result<Expr, Refused>> Inner<F> {
     /// `name(expr, ..)`
     #[tactic(auto, unfolding(hl_grammar::specs::Read::expr_form))]
     pub fn call_form(&self, cursor: &mut Cursor<'_>) -> Result<ExprForm, Refused>
-        requires { Nests (read.expr_of_only self.now.values_only self.now.depth) self.now.depth (F.pre self.now.expr) (F.post self.now.expr) }
-        ensures { Reads (within read.expr_form self.now.values_only self.now.depth ExprAlternative.Call cursor.old) result cursor.new }
+        requires { NestsIn self.now (F.pre self.now.expr) (F.post self.now.expr) }
+        ensures { Reads (form_in self.now ExprAlternative.Call cursor.old) result cursor.new }
     {
         let name = cursor.call_name()?;
         let arguments = self.arguments(cursor)?;
@@ -91,8 +89,8 @@ impl<F: Fn(Global, &mut Cursor<'_>, u8) -> Result<Expr, Refused>> Inner<F> {
     /// `<type>::into(expr)`
     #[tactic(auto, unfolding(hl_grammar::specs::Read::expr_form))]
     pub fn into_form(&self, cursor: &mut Cursor<'_>) -> Result<ExprForm, Refused>
-        requires { Nests (read.expr_of_only self.now.values_only self.now.depth) self.now.depth (F.pre self.now.expr) (F.post self.now.expr) }
-        ensures { Reads (within read.expr_form self.now.values_only self.now.depth ExprAlternative.Into cursor.old) result cursor.new }
+        requires { NestsIn self.now (F.pre self.now.expr) (F.post self.now.expr) }
+        ensures { Reads (form_in self.now ExprAlternative.Into cursor.old) result cursor.new }
     {
         cursor.expect(Symbol::Less)?;
         let kind = type_text(self.alloc, cursor, self.depth)?;
@@ -106,8 +104,8 @@ impl<F: Fn(Global, &mut Cursor<'_>, u8) -> Result<Expr, Refused>> Inner<F> {
     /// `for_while::<name>(expr, expr)`
     #[tactic(auto, unfolding(hl_grammar::specs::Read::expr_form))]
     pub fn for_while_form(&self, cursor: &mut Cursor<'_>) -> Result<ExprForm, Refused>
-        requires { Nests (read.expr_of_only self.now.values_only self.now.depth) self.now.depth (F.pre self.now.expr) (F.post self.now.expr) }
-        ensures { Reads (within read.expr_form self.now.values_only self.now.depth ExprAlternative.ForWhile cursor.old) result cursor.new }
+        requires { NestsIn self.now (F.pre self.now.expr) (F.post self.now.expr) }
+        ensures { Reads (form_in self.now ExprAlternative.ForWhile cursor.old) result cursor.new }
     {
         cursor.expect_word("for_while")?;
         cursor.expect(Symbol::DoubleColon)?;
@@ -120,8 +118,8 @@ impl<F: Fn(Global, &mut Cursor<'_>, u8) -> Result<Expr, Refused>> Inner<F> {
 
     /// `unwrap_left::<type>(expr)`
     pub fn unwrap_left_form(&self, cursor: &mut Cursor<'_>) -> Result<ExprForm, Refused>
-        requires { Nests (read.expr_of_only self.now.values_only self.now.depth) self.now.depth (F.pre self.now.expr) (F.post self.now.expr) }
-        ensures { Reads (within read.expr_form self.now.values_only self.now.depth ExprAlternative.UnwrapLeft cursor.old) result cursor.new }
+        requires { NestsIn self.now (F.pre self.now.expr) (F.post self.now.expr) }
+        ensures { Reads (form_in self.now ExprAlternative.UnwrapLeft cursor.old) result cursor.new }
     {
         let (kind, operand) = self.typed(cursor, "unwrap_left")?;
         Ok(ExprForm::UnwrapLeft(kind, operand))
@@ -129,8 +127,8 @@ impl<F: Fn(Global, &mut Cursor<'_>, u8) -> Result<Expr, Refused>> Inner<F> {
 
     /// `unwrap_right::<type>(expr)`
     pub fn unwrap_right_form(&self, cursor: &mut Cursor<'_>) -> Result<ExprForm, Refused>
-        requires { Nests (read.expr_of_only self.now.values_only self.now.depth) self.now.depth (F.pre self.now.expr) (F.post self.now.expr) }
-        ensures { Reads (within read.expr_form self.now.values_only self.now.depth ExprAlternative.UnwrapRight cursor.old) result cursor.new }
+        requires { NestsIn self.now (F.pre self.now.expr) (F.post self.now.expr) }
+        ensures { Reads (form_in self.now ExprAlternative.UnwrapRight cursor.old) result cursor.new }
     {
         let (kind, operand) = self.typed(cursor, "unwrap_right")?;
         Ok(ExprForm::UnwrapRight(kind, operand))
@@ -138,8 +136,8 @@ impl<F: Fn(Global, &mut Cursor<'_>, u8) -> Result<Expr, Refused>> Inner<F> {
 
     /// `is_none::<type>(expr)`
     pub fn is_none_form(&self, cursor: &mut Cursor<'_>) -> Result<ExprForm, Refused>
-        requires { Nests (read.expr_of_only self.now.values_only self.now.depth) self.now.depth (F.pre self.now.expr) (F.post self.now.expr) }
-        ensures { Reads (within read.expr_form self.now.values_only self.now.depth ExprAlternative.IsNone cursor.old) result cursor.new }
+        requires { NestsIn self.now (F.pre self.now.expr) (F.post self.now.expr) }
+        ensures { Reads (form_in self.now ExprAlternative.IsNone cursor.old) result cursor.new }
     {
         let (kind, operand) = self.typed(cursor, "is_none")?;
         Ok(ExprForm::IsNone(kind, operand))
@@ -147,8 +145,8 @@ impl<F: Fn(Global, &mut Cursor<'_>, u8) -> Result<Expr, Refused>> Inner<F> {
 
     /// `fold::<name, count>(expr, expr)`
     pub fn fold_form(&self, cursor: &mut Cursor<'_>) -> Result<ExprForm, Refused>
-        requires { Nests (read.expr_of_only self.now.values_only self.now.depth) self.now.depth (F.pre self.now.expr) (F.post self.now.expr) }
-        ensures { Reads (within read.expr_form self.now.values_only self.now.depth ExprAlternative.Fold cursor.old) result cursor.new }
+        requires { NestsIn self.now (F.pre self.now.expr) (F.post self.now.expr) }
+        ensures { Reads (form_in self.now ExprAlternative.Fold cursor.old) result cursor.new }
     {
         let (function, count, list, start) = self.counted(cursor, "fold")?;
         Ok(ExprForm::Fold(function, count, list, start))
@@ -156,8 +154,8 @@ impl<F: Fn(Global, &mut Cursor<'_>, u8) -> Result<Expr, Refused>> Inner<F> {
 
     /// `array_fold::<name, count>(expr, expr)`
     pub fn array_fold_form(&self, cursor: &mut Cursor<'_>) -> Result<ExprForm, Refused>
-        requires { Nests (read.expr_of_only self.now.values_only self.now.depth) self.now.depth (F.pre self.now.expr) (F.post self.now.expr) }
-        ensures { Reads (within read.expr_form self.now.values_only self.now.depth ExprAlternative.ArrayFold cursor.old) result cursor.new }
+        requires { NestsIn self.now (F.pre self.now.expr) (F.post self.now.expr) }
+        ensures { Reads (form_in self.now ExprAlternative.ArrayFold cursor.old) result cursor.new }
     {
         let (function, count, array, start) = self.counted(cursor, "array_fold")?;
         Ok(ExprForm::ArrayFold(function, count, array, start))

@@ -4,9 +4,8 @@
 ghost use Rattle.std.specs.Prelude.{◌≡◌};
 ghost use Rattle.simplicityhl.specs.Grammar.{expr_of};
 ghost use Rattle.hl_grammar.specs.Read as read;
-ghost use Rattle.hl_operands.specs.Exprs.{within};
+ghost use Rattle.hl_operands.specs.Exprs.{part_in, expr_in, NestsIn};
 ghost use Rattle.hl_cursor.specs.Gives.{Gives, Reads, listed_of};
-ghost use Rattle.hl_cursor.specs.Nests.{Nests};
 
 use hl_cursor::{Cursor, Listed, Refused};
 use hl_syntax::{Expr, ExprForm, Exprs, Symbol};
@@ -31,16 +30,16 @@ pub struct Inner<F> {
 impl<F: Fn(Global, &mut Cursor<'_>, u8) -> Result<Expr, Refused>> Inner<F> {
     /// An expression, read by the reader of those.
     pub fn expr(&self, cursor: &mut Cursor<'_>) -> Result<Expr, Refused>
-        requires { Nests (read.expr_of_only self.now.values_only self.now.depth) self.now.depth (F.pre self.now.expr) (F.post self.now.expr) }
-        ensures { Reads (read.expr_of_only self.now.values_only self.now.depth cursor.old) result cursor.new }
+        requires { NestsIn self.now (F.pre self.now.expr) (F.post self.now.expr) }
+        ensures { Reads (expr_in self.now cursor.old) result cursor.new }
     {
         (self.expr)(self.alloc, cursor, self.depth)
     }
 
     /// An expression, put on the heap at once.
     pub fn boxed(&self, cursor: &mut Cursor<'_>) -> Result<Box<Expr>, Refused>
-        requires { Nests (read.expr_of_only self.now.values_only self.now.depth) self.now.depth (F.pre self.now.expr) (F.post self.now.expr) }
-        ensures { Reads (read.expr_of_only self.now.values_only self.now.depth cursor.old) result cursor.new }
+        requires { NestsIn self.now (F.pre self.now.expr) (F.post self.now.expr) }
+        ensures { Reads (expr_in self.now cursor.old) result cursor.new }
     {
         let expr = self.expr(cursor)?;
         Ok(Box::new(self.alloc, expr)?)
@@ -49,8 +48,8 @@ impl<F: Fn(Global, &mut Cursor<'_>, u8) -> Result<Expr, Refused>> Inner<F> {
     /// Expressions up to a closing bracket, which is taken too.
     #[tactic(auto, using(hl_cursor::proofs::Turns::turn, hl_cursor::proofs::Turns::over))]
     fn list(&self, cursor: &mut Cursor<'_>, close: Symbol) -> Result<Listed<Expr>, Refused>
-        requires { Nests (read.expr_of_only self.now.values_only self.now.depth) self.now.depth (F.pre self.now.expr) (F.post self.now.expr) }
-        ensures { Gives listed_of (read.many close (read.expr_of_only self.now.values_only self.now.depth) cursor.old) result cursor.new }
+        requires { NestsIn self.now (F.pre self.now.expr) (F.post self.now.expr) }
+        ensures { Gives listed_of (read.many close (expr_in self.now) cursor.old) result cursor.new }
     {
         let mut items = Exprs::new(self.alloc);
         for _turn in 0..cursor.turns() {
@@ -75,8 +74,9 @@ impl<F: Fn(Global, &mut Cursor<'_>, u8) -> Result<Expr, Refused>> Inner<F> {
     /// `(expr, ..)` as an expression: a tuple, or the one that stands for itself.
     #[tactic(auto, unfolding(hl_grammar::specs::Read::parenthesised))]
     pub fn parenthesised(&self, cursor: &mut Cursor<'_>) -> Result<Expr, Refused>
-        requires { Nests (read.expr_of_only self.now.values_only self.now.depth) self.now.depth (F.pre self.now.expr) (F.post self.now.expr) }
-        ensures { Reads (read.parenthesised (λ es. expr_of (ExprForm.Tuple es)) (read.expr_of_only self.now.values_only self.now.depth) cursor.old) result cursor.new }
+        requires { NestsIn self.now (F.pre self.now.expr) (F.post self.now.expr) }
+        ensures { Reads (read.parenthesised (λ es. expr_of (ExprForm.Tuple es)) (expr_in self.now) cursor.old)
+            result cursor.new }
     {
         let first = cursor.tokens();
         cursor.expect(Symbol::OpenParenthesis)?;
@@ -94,8 +94,8 @@ impl<F: Fn(Global, &mut Cursor<'_>, u8) -> Result<Expr, Refused>> Inner<F> {
     /// `(expr)`
     #[tactic(auto, unfolding(hl_grammar::specs::Read::in_parentheses))]
     pub fn in_parentheses(&self, cursor: &mut Cursor<'_>) -> Result<Box<Expr>, Refused>
-        requires { Nests (read.expr_of_only self.now.values_only self.now.depth) self.now.depth (F.pre self.now.expr) (F.post self.now.expr) }
-        ensures { Reads (within read.in_parentheses self.now.values_only self.now.depth cursor.old) result cursor.new }
+        requires { NestsIn self.now (F.pre self.now.expr) (F.post self.now.expr) }
+        ensures { Reads (part_in self.now read.in_parentheses cursor.old) result cursor.new }
     {
         cursor.expect(Symbol::OpenParenthesis)?;
         let operand = self.boxed(cursor)?;
@@ -106,8 +106,8 @@ impl<F: Fn(Global, &mut Cursor<'_>, u8) -> Result<Expr, Refused>> Inner<F> {
     /// `[expr, ..]`
     #[tactic(auto, unfolding(hl_grammar::specs::Read::in_brackets))]
     pub fn in_brackets(&self, cursor: &mut Cursor<'_>) -> Result<Exprs, Refused>
-        requires { Nests (read.expr_of_only self.now.values_only self.now.depth) self.now.depth (F.pre self.now.expr) (F.post self.now.expr) }
-        ensures { Reads (within read.in_brackets self.now.values_only self.now.depth cursor.old) result cursor.new }
+        requires { NestsIn self.now (F.pre self.now.expr) (F.post self.now.expr) }
+        ensures { Reads (part_in self.now read.in_brackets cursor.old) result cursor.new }
     {
         cursor.expect(Symbol::OpenBracket)?;
         Ok(self.list(cursor, Symbol::CloseBracket)?.items)
@@ -116,8 +116,8 @@ impl<F: Fn(Global, &mut Cursor<'_>, u8) -> Result<Expr, Refused>> Inner<F> {
     /// `(expr, ..)`
     #[tactic(auto, unfolding(hl_grammar::specs::Read::arguments))]
     pub fn arguments(&self, cursor: &mut Cursor<'_>) -> Result<Exprs, Refused>
-        requires { Nests (read.expr_of_only self.now.values_only self.now.depth) self.now.depth (F.pre self.now.expr) (F.post self.now.expr) }
-        ensures { Reads (within read.arguments self.now.values_only self.now.depth cursor.old) result cursor.new }
+        requires { NestsIn self.now (F.pre self.now.expr) (F.post self.now.expr) }
+        ensures { Reads (part_in self.now read.arguments cursor.old) result cursor.new }
     {
         cursor.expect(Symbol::OpenParenthesis)?;
         Ok(self.list(cursor, Symbol::CloseParenthesis)?.items)

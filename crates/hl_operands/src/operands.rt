@@ -6,9 +6,8 @@ ghost use Rattle.hl_syntax.specs.declared.tree.Expr.{Expr};
 ghost use Rattle.hl_syntax.specs.declared.tree.ExprForm.{ExprForm};
 ghost use Rattle.hl_syntax.specs.declared.tree.TypeText.{TypeText};
 ghost use Rattle.hl_grammar.specs.Read as read;
-ghost use Rattle.hl_operands.specs.Exprs.{within, applied, exclaimed, typed, named, counted, closed, last_argument};
+ghost use Rattle.hl_operands.specs.Exprs.{part_in, NestsIn, applied, exclaimed, typed, named, counted, closed, last_argument};
 ghost use Rattle.hl_cursor.specs.Gives.{Gives, Reads};
-ghost use Rattle.hl_cursor.specs.Nests.{Nests};
 
 use crate::inner::Inner;
 use hl_bindings::type_text;
@@ -31,8 +30,9 @@ fn close(cursor: &mut Cursor<'_>) -> Result<(), Refused>
 impl<F: Fn(Global, &mut Cursor<'_>, u8) -> Result<Expr, Refused>> Inner<F> {
     /// `word(expr)`
     pub fn applied(&self, cursor: &mut Cursor<'_>, word: &str) -> Result<Box<Expr>, Refused>
-        requires { Nests (read.expr_of_only self.now.values_only self.now.depth) self.now.depth (F.pre self.now.expr) (F.post self.now.expr) }
-        ensures { (form : Expr → ExprForm) → Gives form (within applied self.now.values_only self.now.depth word.now form cursor.old) result cursor.new }
+        requires { NestsIn self.now (F.pre self.now.expr) (F.post self.now.expr) }
+        ensures { (form : Expr → ExprForm) →
+            Gives form (part_in self.now applied word.now form cursor.old) result cursor.new }
     {
         cursor.expect_word(word)?;
         Ok(self.in_parentheses(cursor)?)
@@ -40,8 +40,9 @@ impl<F: Fn(Global, &mut Cursor<'_>, u8) -> Result<Expr, Refused>> Inner<F> {
 
     /// `word!(expr)`
     pub fn exclaimed(&self, cursor: &mut Cursor<'_>, word: &str) -> Result<Box<Expr>, Refused>
-        requires { Nests (read.expr_of_only self.now.values_only self.now.depth) self.now.depth (F.pre self.now.expr) (F.post self.now.expr) }
-        ensures { (form : Expr → ExprForm) → Gives form (within exclaimed self.now.values_only self.now.depth word.now form cursor.old) result cursor.new }
+        requires { NestsIn self.now (F.pre self.now.expr) (F.post self.now.expr) }
+        ensures { (form : Expr → ExprForm) →
+            Gives form (part_in self.now exclaimed word.now form cursor.old) result cursor.new }
     {
         cursor.expect_word(word)?;
         cursor.expect(Symbol::Exclamation)?;
@@ -51,7 +52,7 @@ impl<F: Fn(Global, &mut Cursor<'_>, u8) -> Result<Expr, Refused>> Inner<F> {
     /// `::<type>`
     #[tactic(auto, unfolding(hl_grammar::specs::Read::type_argument))]
     fn type_argument(&self, cursor: &mut Cursor<'_>) -> Result<TypeText, Refused>
-        ensures { Reads (within read.type_argument self.now.values_only self.now.depth cursor.old) result cursor.new }
+        ensures { Reads (part_in self.now read.type_argument cursor.old) result cursor.new }
     {
         cursor.expect(Symbol::DoubleColon)?;
         cursor.expect(Symbol::Less)?;
@@ -66,8 +67,9 @@ impl<F: Fn(Global, &mut Cursor<'_>, u8) -> Result<Expr, Refused>> Inner<F> {
         cursor: &mut Cursor<'_>,
         word: &str,
     ) -> Result<(TypeText, Box<Expr>), Refused>
-        requires { Nests (read.expr_of_only self.now.values_only self.now.depth) self.now.depth (F.pre self.now.expr) (F.post self.now.expr) }
-        ensures { (form : TypeText → Expr → ExprForm) → Gives (λ a. form a.0 a.1) (within typed self.now.values_only self.now.depth word.now form cursor.old) result cursor.new }
+        requires { NestsIn self.now (F.pre self.now.expr) (F.post self.now.expr) }
+        ensures { (form : TypeText → Expr → ExprForm) → Gives (λ a. form a.0 a.1)
+            (part_in self.now typed word.now form cursor.old) result cursor.new }
     {
         cursor.expect_word(word)?;
         let kind = self.type_argument(cursor)?;
@@ -77,8 +79,9 @@ impl<F: Fn(Global, &mut Cursor<'_>, u8) -> Result<Expr, Refused>> Inner<F> {
 
     /// `expr)`, with or without a comma after the expression.
     fn last_argument(&self, cursor: &mut Cursor<'_>) -> Result<Box<Expr>, Refused>
-        requires { Nests (read.expr_of_only self.now.values_only self.now.depth) self.now.depth (F.pre self.now.expr) (F.post self.now.expr) }
-        ensures { (pair : Expr → Expr × Expr) → Gives pair (within last_argument self.now.values_only self.now.depth pair cursor.old) result cursor.new }
+        requires { NestsIn self.now (F.pre self.now.expr) (F.post self.now.expr) }
+        ensures { (pair : Expr → Expr × Expr) →
+            Gives pair (part_in self.now last_argument pair cursor.old) result cursor.new }
     {
         let argument = self.boxed(cursor)?;
         close(cursor)?;
@@ -91,8 +94,8 @@ impl<F: Fn(Global, &mut Cursor<'_>, u8) -> Result<Expr, Refused>> Inner<F> {
         &self,
         cursor: &mut Cursor<'_>,
     ) -> Result<(Box<Expr>, Box<Expr>), Refused>
-        requires { Nests (read.expr_of_only self.now.values_only self.now.depth) self.now.depth (F.pre self.now.expr) (F.post self.now.expr) }
-        ensures { Reads (within read.two_arguments self.now.values_only self.now.depth cursor.old) result cursor.new }
+        requires { NestsIn self.now (F.pre self.now.expr) (F.post self.now.expr) }
+        ensures { Reads (part_in self.now read.two_arguments cursor.old) result cursor.new }
     {
         cursor.expect(Symbol::OpenParenthesis)?;
         let first = self.boxed(cursor)?;
@@ -104,7 +107,7 @@ impl<F: Fn(Global, &mut Cursor<'_>, u8) -> Result<Expr, Refused>> Inner<F> {
     /// `::<name, count>`
     #[tactic(auto, unfolding(hl_grammar::specs::Read::counted_function))]
     fn counted_function(&self, cursor: &mut Cursor<'_>) -> Result<(Mark, Mark), Refused>
-        ensures { Reads (within read.counted_function self.now.values_only self.now.depth cursor.old) result cursor.new }
+        ensures { Reads (part_in self.now read.counted_function cursor.old) result cursor.new }
     {
         cursor.expect(Symbol::DoubleColon)?;
         cursor.expect(Symbol::Less)?;
@@ -121,8 +124,9 @@ impl<F: Fn(Global, &mut Cursor<'_>, u8) -> Result<Expr, Refused>> Inner<F> {
         cursor: &mut Cursor<'_>,
         word: &str,
     ) -> Result<(Mark, Mark, Box<Expr>, Box<Expr>), Refused>
-        requires { Nests (read.expr_of_only self.now.values_only self.now.depth) self.now.depth (F.pre self.now.expr) (F.post self.now.expr) }
-        ensures { (form : Mark → Mark → Expr → Expr → ExprForm) → Gives (λ a. form a.0 a.1 a.2 a.3) (within counted self.now.values_only self.now.depth word.now form cursor.old) result cursor.new }
+        requires { NestsIn self.now (F.pre self.now.expr) (F.post self.now.expr) }
+        ensures { (form : Mark → Mark → Expr → Expr → ExprForm) → Gives (λ a. form a.0 a.1 a.2 a.3)
+            (part_in self.now counted word.now form cursor.old) result cursor.new }
     {
         cursor.expect_word(word)?;
         let (function, count) = self.counted_function(cursor)?;
@@ -133,7 +137,8 @@ impl<F: Fn(Global, &mut Cursor<'_>, u8) -> Result<Expr, Refused>> Inner<F> {
     /// `word::name`
     #[tactic(auto, unfolding(hl_grammar::specs::Read::path_name))]
     pub fn named(&self, cursor: &mut Cursor<'_>, word: &str) -> Result<Mark, Refused>
-        ensures { (form : Mark → ExprForm) → Gives form (within named self.now.values_only self.now.depth word.now form cursor.old) result cursor.new }
+        ensures { (form : Mark → ExprForm) →
+            Gives form (part_in self.now named word.now form cursor.old) result cursor.new }
     {
         cursor.expect_word(word)?;
         cursor.expect(Symbol::DoubleColon)?;

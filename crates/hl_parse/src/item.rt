@@ -28,7 +28,8 @@ fn param(alloc: Global, cursor: &mut Cursor<'_>, depth: u8) -> Result<Param, Ref
 /// Parameters, and the parenthesis after them.
 #[tactic(auto, using(hl_cursor::proofs::Turns::turn, hl_cursor::proofs::Turns::over))]
 fn params(alloc: Global, cursor: &mut Cursor<'_>, depth: u8) -> Result<Listed<Param>, Refused>
-    ensures { Gives listed_of (read.many Symbol.CloseParenthesis (read.param depth) cursor.old) result cursor.new }
+    ensures { Gives listed_of (read.many Symbol.CloseParenthesis (read.param depth) cursor.old)
+        result cursor.new }
 {
     let mut items = Params::new(alloc);
     for _turn in 0..cursor.turns() {
@@ -106,7 +107,9 @@ fn function(alloc: Global, cursor: &mut Cursor<'_>, depth: u8) -> Result<Item, R
 
 /// An alias or a function.
 fn item(alloc: Global, cursor: &mut Cursor<'_>, depth: u8) -> Result<Item, Refused>
-    ensures { Reads (choose (is_at_word (codes "type")) (read.alias depth) (read.function depth) cursor.old) result cursor.new }
+    ensures { Reads
+        (choose (is_at_word (codes "type")) (read.alias depth) (read.function depth) cursor.old)
+        result cursor.new }
 {
     if cursor.is_at_word("type") {
         alias(alloc, cursor, depth)

@@ -82,10 +82,13 @@ fn read_type(alloc: Global, tokens: &[Token], end: u64) -> Result<TypeText, Pars
 pub fn parse_type(alloc: Global, tokens: &[Token], end: u64) -> Result<TypeText, ParseRefusal>
     ensures read { Answers (whole (read.type most_depth) tokens.now) end result }
     ensures is_type { IfOk result (λ tree. Stands grammar.type most_depth tokens.now tree) }
-    ensures types { (tree : TypeText) → Stands grammar.type most_depth tokens.now tree → Finds tree result }
+    ensures types { (tree : TypeText) →
+        Stands grammar.type most_depth tokens.now tree → Finds tree result }
     ensures cause { IsCause grammar.type tokens.now end result }
-    ensures syntax { (at : Span) → IsSyntaxError grammar.type tokens.now end at → Refuses (ParseRefusal.Syntax at) result }
-    ensures too_deep { (at : Span) → IsFirstDeep grammar.type tokens.now at → Refuses (ParseRefusal.TooDeep at) result }
+    ensures syntax { (at : Span) →
+        IsSyntaxError grammar.type tokens.now end at → Refuses (ParseRefusal.Syntax at) result }
+    ensures too_deep { (at : Span) →
+        IsFirstDeep grammar.type tokens.now at → Refuses (ParseRefusal.TooDeep at) result }
 {
     read_type(alloc, tokens, end)
 }
@@ -121,10 +124,13 @@ fn read_value(alloc: Global, tokens: &[Token], end: u64) -> Result<Expr, ParseRe
 pub fn parse_value(alloc: Global, tokens: &[Token], end: u64) -> Result<Expr, ParseRefusal>
     ensures read { Answers (whole (read.value most_depth) tokens.now) end result }
     ensures is_value { IfOk result (λ tree. Stands grammar.value most_depth tokens.now tree) }
-    ensures values { (tree : Expr) → Stands grammar.value most_depth tokens.now tree → Finds tree result }
+    ensures values { (tree : Expr) →
+        Stands grammar.value most_depth tokens.now tree → Finds tree result }
     ensures cause { IsCause grammar.value tokens.now end result }
-    ensures syntax { (at : Span) → IsSyntaxError grammar.value tokens.now end at → Refuses (ParseRefusal.Syntax at) result }
-    ensures too_deep { (at : Span) → IsFirstDeep grammar.value tokens.now at → Refuses (ParseRefusal.TooDeep at) result }
+    ensures syntax { (at : Span) →
+        IsSyntaxError grammar.value tokens.now end at → Refuses (ParseRefusal.Syntax at) result }
+    ensures too_deep { (at : Span) →
+        IsFirstDeep grammar.value tokens.now at → Refuses (ParseRefusal.TooDeep at) result }
 {
     read_value(alloc, tokens, end)
 }
@@ -159,10 +165,13 @@ fn read_program(alloc: Global, tokens: &[Token], end: u64) -> Result<Program, Pa
 pub fn parse(alloc: Global, tokens: &[Token], end: u64) -> Result<Program, ParseRefusal>
     ensures read { Answers (whole (read.program most_depth) tokens.now) end result }
     ensures is_program { IfOk result (λ tree. Stands grammar.program most_depth tokens.now tree) }
-    ensures programs { (tree : List Item) → Stands grammar.program most_depth tokens.now tree → Finds tree result }
+    ensures programs { (tree : List Item) →
+        Stands grammar.program most_depth tokens.now tree → Finds tree result }
     ensures cause { IsCause grammar.program tokens.now end result }
-    ensures syntax { (at : Span) → IsSyntaxError grammar.program tokens.now end at → Refuses (ParseRefusal.Syntax at) result }
-    ensures too_deep { (at : Span) → IsFirstDeep grammar.program tokens.now at → Refuses (ParseRefusal.TooDeep at) result }
+    ensures syntax { (at : Span) →
+        IsSyntaxError grammar.program tokens.now end at → Refuses (ParseRefusal.Syntax at) result }
+    ensures too_deep { (at : Span) →
+        IsFirstDeep grammar.program tokens.now at → Refuses (ParseRefusal.TooDeep at) result }
 {
     read_program(alloc, tokens, end)
 }

@@ -1,5 +1,5 @@
 -- What each construct gives for values of the types that it needs.
-use Rattle.std.proofs.Common.{◌≡◌, ℕ, zero, suc, ◌+◌, ◌^◌, ◌<◌, ◌≤◌, true, false, nat_lt, List, [], ◌∷◌, Option, Some, None, refl, sym, subst, arith, IsTrue, ltb-true}
+use Rattle.std.proofs.Common.{◌≡◌, ℕ, zero, suc, ◌+◌, ◌^◌, ◌<◌, ◌≤◌, true, false, List, [], ◌∷◌, Option, Some, None, refl, sym, subst, arith, IsTrue, lt-ltb}
 use Rattle.hl_data.specs.declared.value.HlValue.{HlValue}
 use Rattle.hl_data.specs.declared.value.HlValue.TheOpen.{HlValue-F}
 use Rattle.hl_data.specs.declared.value.HlValue.TheViews.{out-HlValue}
@@ -16,7 +16,7 @@ use Rattle.hl_meaning.specs.Mean.{asserted, unwrapped, unwrapped_left, unwrapped
 use Rattle.hl_meaning.specs.Values.{encoded, word_at, word_of}
 use Rattle.hl_rules.specs.Same.{unit_type}
 use Rattle.hl_progress.specs.Held.{Holds, HasAnswer, IsValueOf}
-use Rattle.hl_progress.proofs.Every.{Every}
+use Rattle.hl_typing.proofs.Every.{Every}
 use Rattle.hl_progress.proofs.Fits.{FitsLayer, opened, there_mapped, bool_fits, word_fits, tuple_fits, left_fits, right_fits}
 
 pub then_holds : {A B : Type 0} (P : A → Type 0) (Q : B → Type 0) (a : Answer A) (f : A → Answer B) → Holds P a → ((x : A) → P x → Holds Q (f x)) → Holds Q (and_then a f)
@@ -71,10 +71,11 @@ tested_holds HlValue-F.Nothing k h = bool_fits true
 tested_holds (HlValue-F.Some v) k h = bool_fits false
 tested_holds _ k h = absurd (cc)
 
-pub literal_holds : (k : HlType) (width : ℕ) (word : List ℕ) → out-HlType k ≡ HlType-F.UInt width → IsTrue (is_width width) → nat_lt (literal_value word) (2 ^ width) ≡ true → HasAnswer k (number_at (out-HlType k) word)
-literal_holds k width word is sound less =
-    subst (λ x. HasAnswer k (number_at x word)) (sym is)
-    (known_value k (word_at width (literal_value word)) (word_of width (literal_value word)) (rw (sound, less) refl) (word_fits width (literal_value word) k is (ltb-true (literal_value word) (2 ^ width) less)))
+pub literal_holds : (width : ℕ) (word : List ℕ) → IsTrue (is_width width) → literal_value word < 2 ^ width → HasAnswer (kind.UInt width) (number_at (out-HlType (kind.UInt width)) word)
+literal_holds width word sound less =
+    subst (λ x. HasAnswer (kind.UInt width) (number_at x word)) (sym (kind.outs-UInt width))
+    (known_value (kind.UInt width) (word_at width (literal_value word)) (word_of width (literal_value word)) (rw (sound, lt-ltb (literal_value word) (2 ^ width) less) refl)
+    (word_fits width (literal_value word) (kind.UInt width) (kind.outs-UInt width) less))
 
 -- Loops.
 

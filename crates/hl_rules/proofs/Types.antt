@@ -12,6 +12,7 @@ use Rattle.hl_syntax.specs.declared.tree.TypeForm.TheOpen.{TypeForm-F, TypeText-
 use Rattle.hl_syntax.specs.declared.tree.TypeForm.TheVariants as types
 use Rattle.hl_syntax.specs.declared.tree.TypeText.{TypeText, roll-TypeText}
 use Rattle.hl_data.specs.declared.value.Entry.{Entry}
+use Rattle.simplicity.specs.Limits.{most_weight}
 use Rattle.simplicity.specs.Types.{weight}
 use Rattle.simplicityhl.specs.Kinds.{form, is_bound, is_count}
 use Rattle.simplicityhl.specs.Tokens.{decimal_value}
@@ -102,9 +103,9 @@ module _ (program : List Item) (asked : List ℕ) (entries : List Entry) (end : 
       go span w None e = k2 aliases name span w e
 
   heavy : (text : TypeForm) (span : Span) → IsWritten program aliases text span → (k : HlType) → made_type aliases text span ≡ Ok k → Fine Bad Any (light span k)
-  heavy text span w k made = go (nat_lt 4194304 (weight (form k))) refl
+  heavy text span w k made = go (nat_lt most_weight (weight (form k))) refl
     where
-      go : (b : Bool) → nat_lt 4194304 (weight (form k)) ≡ b → Fine Bad Any (light span k)
+      go : (b : Bool) → nat_lt most_weight (weight (form k)) ≡ b → Fine Bad Any (light span k)
       go true e = rw e (l5 aliases text span k w made (ltb-true _ _ e))
       go false e = rw e tt
 

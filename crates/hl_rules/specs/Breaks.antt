@@ -23,6 +23,7 @@ use Rattle.hl_syntax.specs.declared.tree.TypeForm.TheVariants as types
 use Rattle.hl_syntax.specs.declared.tree.TypeText.{TypeText}
 use Rattle.hl_data.specs.declared.value.Entry.{Entry}
 use Rattle.jets.specs.Jet.{Row}
+use Rattle.simplicity.specs.Limits.{most_weight}
 use Rattle.simplicity.specs.Types.{weight}
 use Rattle.simplicityhl.specs.Grammar.{is_among}
 use Rattle.simplicityhl.specs.Kinds.{form, is_bound}
@@ -193,7 +194,7 @@ pub data Breaks (program : List Item) (asked : List ℕ) (entries : List Entry) 
   l4_fold : (at : Place) (form : ExprForm) (span : Span) (count : Mark) → Occurs program at form span → Counts form count → 65536 < decimal_value count.text →
       Breaks program asked entries end (breaks_limit L4 count.span)
   -- L5: the form of a written type has more than 4,194,304 nodes
-  l5 : (aliases : List TypedName) (text : TypeForm) (span : Span) (kind : HlType) → IsWritten program aliases text span → made_type aliases text span ≡ Ok kind → 4194304 < weight (form kind) →
+  l5 : (aliases : List TypedName) (text : TypeForm) (span : Span) (kind : HlType) → IsWritten program aliases text span → made_type aliases text span ≡ Ok kind → most_weight < weight (form kind) →
       Breaks program asked entries end (breaks_limit L5 span)
 
 -- what the walk finds first is broken

@@ -14,6 +14,3 @@ pub use tree::{
     Arm, Arms, Expr, ExprForm, Exprs, Item, Param, Params, Pattern, PatternForm, Patterns, Program,
     Side, Statement, Statements, TypeForm, TypeText, TypeTexts,
 };
-
-#[cfg(test)]
-mod tests;

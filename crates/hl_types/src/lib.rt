@@ -9,8 +9,6 @@ mod kinds;
 mod names;
 mod refusal;
 mod same;
-#[cfg(test)]
-mod tests;
 mod written;
 
 pub use copies::copy_type;

@@ -2,6 +2,7 @@ ghost use Rattle.std.specs.Prelude.{◌≡◌, IfOk, map, nat_lt};
 ghost use Rattle.std.specs.List.{All};
 ghost use Rattle.hl_types.specs.Answers.{Answers};
 ghost use Rattle.hl_types.specs.Walks.{AreSound, walk_form};
+ghost use Rattle.simplicity.specs.Limits.{most_weight};
 ghost use Rattle.simplicity.specs.Types.{weight};
 ghost use Rattle.simplicityhl.specs.Kinds.{form, IsSound};
 ghost use Rattle.simplicityhl.specs.Written.{in_turn, known, named, walk};
@@ -13,16 +14,16 @@ use crate::refusal::TypeRefusal;
 use hl_syntax::{Aliases, HlType, HlTypes, Limit, Rule, Span, TypeForm, TypeText, TypeTexts};
 use lists::Boxed;
 use std::alloc::{AllocError, Global};
-use type_table::TypeTable;
+use type_table::{MOST_WEIGHT, TypeTable};
 
 /// Whether the tree of a type's form has more than 4,194,304 nodes.
 fn is_heavy(alloc: Global, kind: &HlType) -> Result<bool, AllocError>
     requires { IsSound kind.now }
-    ensures { IfOk result (λ heavy. heavy ≡ nat_lt 4_194_304 (weight (form kind.now))) }
+    ensures { IfOk result (λ heavy. heavy ≡ nat_lt most_weight (weight (form kind.now))) }
 {
     let mut types = TypeTable::new(alloc);
     let id = structure(alloc, kind, &mut types)?;
-    Ok(types.weight(id) > 4_194_304)
+    Ok(types.weight(id) > MOST_WEIGHT)
 }
 
 /// The type that a name with a span stands for.

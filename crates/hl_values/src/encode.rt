@@ -32,7 +32,8 @@ pub(crate) fn encode_parts(
 ) -> Result<Vec<CoreValue>, AllocError>
     requires sound { IsTrue (list_all (λ kind. kind) (map is_sound kinds.now)) }
     requires there { IsSome (at_each (map encoded parts.now) kinds.now) }
-    ensures { IfOk result (λ cores. at_each (map encoded parts.now) kinds.now ≡ Some (values_of cores.items)) }
+    ensures { IfOk result (λ cores.
+        at_each (map encoded parts.now) kinds.now ≡ Some (values_of cores.items)) }
 {
     let mut cores = Vec::new(alloc);
     'parts: for (place, part) in parts.as_slice().iter().enumerate() {
@@ -51,7 +52,8 @@ pub(crate) fn encode_items(
 ) -> Result<Vec<CoreValue>, AllocError>
     requires sound { IsSound kind.now }
     requires there { IsSome (at_all (map encoded items.now) kind.now) }
-    ensures { IfOk result (λ cores. at_all (map encoded items.now) kind.now ≡ Some (values_of cores.items)) }
+    ensures { IfOk result (λ cores.
+        at_all (map encoded items.now) kind.now ≡ Some (values_of cores.items)) }
 {
     let mut cores = Vec::new(alloc);
     'items: for item in items.as_slice() {

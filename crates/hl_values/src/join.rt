@@ -59,7 +59,8 @@ pub(crate) fn tuple_of_last(
     count: usize,
 ) -> Result<CoreValue, AllocError>
     requires { count ≤ length values.old.items }
-    ensures { IfOk result (TakesLast values.old.items values.new.items count (λ vs. Some (tuple_value vs))) }
+    ensures { IfOk result
+        (TakesLast values.old.items values.new.items count (λ vs. Some (tuple_value vs))) }
 {
     if count == 0 {
         return Ok(CoreValue::Unit);

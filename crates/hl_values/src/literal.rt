@@ -122,7 +122,8 @@ fn literal_number(word: &[u8]) -> Option<Wide>
 /// The word of a width that a literal spells. None where the number doesn't fit the width.
 pub fn word_spelled(word: &str, width: u16) -> Option<Word>
     requires { IsTrue (is_width width) }
-    ensures found { IfSome result (λ spelled. spelled ≡ record { width = width; number = literal_value word.now }) }
+    ensures found { IfSome result (λ spelled.
+        spelled ≡ record { width = width; number = literal_value word.now }) }
     ensures fits { IfSome result (λ spelled. literal_value word.now < 2 ^ width) }
     ensures none { IfNone result (2 ^ width ≤ literal_value word.now) }
 {

@@ -66,7 +66,8 @@ fn write_tuple_end(text: &mut String, count: usize) -> Result<(), AllocError>
 /// Texts of values with `, ` between them.
 #[cycle(print)]
 pub(crate) fn write_joined(text: &mut String, values: &HlValues) -> Result<(), AllocError>
-    ensures { IfOk result (λ _. string_bytes text.new ≡ string_bytes text.old ++ joined (map printed values.now)) }
+    ensures { IfOk result (λ _.
+        string_bytes text.new ≡ string_bytes text.old ++ joined (map printed values.now)) }
 {
     'values: for (place, value) in values.as_slice().iter().enumerate() {
         write_separator(text, place)?;
@@ -109,7 +110,8 @@ pub(crate) fn write_value(text: &mut String, value: &HlValue) -> Result<(), Allo
 /// The text of a value in parentheses, after a word with the first of them.
 #[cycle(print)]
 pub(crate) fn write_tagged(text: &mut String, tag: &str, part: &HlValue) -> Result<(), AllocError>
-    ensures { IfOk result (λ _. string_bytes text.new ≡ string_bytes text.old ++ (tag.now ++ printed part.now ++ codes ")")) }
+    ensures { IfOk result (λ _. string_bytes text.new ≡ string_bytes text.old
+        ++ (tag.now ++ printed part.now ++ codes ")")) }
 {
     text.push_str(tag)?;
     write_value(text, part)?;

@@ -3,7 +3,7 @@ use Rattle.std.specs.Prelude.{ℕ, ◌<◌, List, [], ◌∷◌, map, Option, So
 use Rattle.simplicity.specs.Types.{Kind}
 use Rattle.simplicity.specs.Nodes.{Node}
 use Rattle.simplicity.specs.Typing.{Arrow, arrow, Typing, IsLeast, IsLight}
-use Rattle.simplicity.specs.Accepted.{most_weight}
+use Rattle.simplicity.specs.Limits.{most_weight}
 use Rattle.type_table.specs.Kinds.{kind_at}
 use Rattle.infer_cells.specs.declared.typing.NodeArrow.{NodeArrow}
 use Rattle.infer_cells.specs.declared.refusal.InferRefusal.{InferRefusal}

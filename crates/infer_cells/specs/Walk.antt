@@ -85,6 +85,14 @@ pub record IsWalk (cells : List Cell) (kinds : List Kind) (marks : List Mark) (p
   pub within : (i : ℕ) → Has path i → i < length cells
   pub falls : (f : Assignment) → FitFrom f 0 cells → Falls (rank (length cells) f) path
 
+-- each mark is new
+abbrev pub AreNew : List Mark → Type 0
+AreNew marks = (i : ℕ) (m : Mark) → slice_get marks i ≡ Some m → m ≡ mark.New
+
+-- no cell is on the path
+abbrev pub NoneIsOpen : List Mark → Type 0
+NoneIsOpen marks = (i : ℕ) → slice_get marks i ≡ Some mark.Open → ⊥
+
 -- what is left of a walk
 abbrev pub is_new : Mark → Bool
 is_new mark.New = true

@@ -35,8 +35,10 @@ pub(crate) fn constrain(
     requires rooted { HasRoot nodes.now }
     requires source { source < length types.now }
     requires target { target < length types.now }
-    ensures ok { IfOk result (λ all. AreConstrained nodes.now (arrow_between types.now source target) all.cells.items all.places.items) }
-    ensures none { IfErr result (λ e. OnNoTyping e (HasNoTyping nodes.now (arrow_between types.now source target))) }
+    ensures ok { IfOk result (λ all.
+        AreConstrained nodes.now (arrow_between types.now source target) all.cells.items all.places.items) }
+    ensures none { IfErr result (λ e.
+        OnNoTyping e (HasNoTyping nodes.now (arrow_between types.now source target))) }
 {
     let room = nodes.len().saturating_mul(MOST_CELLS);
     let mut cells = row_cells(alloc, types, source.max(target), room)?;

@@ -22,9 +22,12 @@ pub(crate) fn emit(
     work: &mut Vec<Equation>,
 ) -> Result<Option<Place>, AllocError>
     requires { AreUnder (length places.now) (children (node_of node.now)) }
-    ensures cells { IfOk result (λ _. cells.new.items ≡ cells.old.items ++ (emitted (length cells.old.items) places.now (node_of node.now)).cells) }
-    ensures equations { IfOk result (λ _. work.new.items ≡ work.old.items ++ (emitted (length cells.old.items) places.now (node_of node.now)).equations) }
-    ensures at { IfOk result (λ at. at ≡ (emitted (length cells.old.items) places.now (node_of node.now)).at) }
+    ensures cells { IfOk result (λ _. cells.new.items ≡ cells.old.items
+        ++ (emitted (length cells.old.items) places.now (node_of node.now)).cells) }
+    ensures equations { IfOk result (λ _. work.new.items ≡ work.old.items
+        ++ (emitted (length cells.old.items) places.now (node_of node.now)).equations) }
+    ensures at { IfOk result (λ at.
+        at ≡ (emitted (length cells.old.items) places.now (node_of node.now)).at) }
 {
     match node {
         ListNode::Injl(child) => Ok(Some(emit_injl(place_at(places, *child), cells)?)),
@@ -97,7 +100,8 @@ fn emit_leaf(target: Cell, cells: &mut Vec<Cell>) -> Result<Place, AllocError>
 
 /// The sum of the child's target and any type.
 fn emit_injl(child: Place, cells: &mut Vec<Cell>) -> Result<Place, AllocError>
-    ensures cells { IfOk result (λ _. cells.new.items ≡ cells.old.items ++ content.Free ∷ content.Sum child.target (length cells.old.items) ∷ []) }
+    ensures cells { IfOk result (λ _. cells.new.items ≡ cells.old.items
+        ++ content.Free ∷ content.Sum child.target (length cells.old.items) ∷ []) }
     ensures at { IfOk result (λ at. at ≡ spec.place child.source (length cells.old.items + 1)) }
 {
     let other = cells.len();
@@ -110,7 +114,8 @@ fn emit_injl(child: Place, cells: &mut Vec<Cell>) -> Result<Place, AllocError>
 
 /// The sum of any type and the child's target.
 fn emit_injr(child: Place, cells: &mut Vec<Cell>) -> Result<Place, AllocError>
-    ensures cells { IfOk result (λ _. cells.new.items ≡ cells.old.items ++ content.Free ∷ content.Sum (length cells.old.items) child.target ∷ []) }
+    ensures cells { IfOk result (λ _. cells.new.items ≡ cells.old.items
+        ++ content.Free ∷ content.Sum (length cells.old.items) child.target ∷ []) }
     ensures at { IfOk result (λ at. at ≡ spec.place child.source (length cells.old.items + 1)) }
 {
     let other = cells.len();
@@ -123,7 +128,8 @@ fn emit_injr(child: Place, cells: &mut Vec<Cell>) -> Result<Place, AllocError>
 
 /// The product of the child's source and any type.
 fn emit_take(child: Place, cells: &mut Vec<Cell>) -> Result<Place, AllocError>
-    ensures cells { IfOk result (λ _. cells.new.items ≡ cells.old.items ++ content.Free ∷ content.Product child.source (length cells.old.items) ∷ []) }
+    ensures cells { IfOk result (λ _. cells.new.items ≡ cells.old.items
+        ++ content.Free ∷ content.Product child.source (length cells.old.items) ∷ []) }
     ensures at { IfOk result (λ at. at ≡ spec.place (length cells.old.items + 1) child.target) }
 {
     let other = cells.len();
@@ -136,7 +142,8 @@ fn emit_take(child: Place, cells: &mut Vec<Cell>) -> Result<Place, AllocError>
 
 /// The product of any type and the child's source.
 fn emit_drop(child: Place, cells: &mut Vec<Cell>) -> Result<Place, AllocError>
-    ensures cells { IfOk result (λ _. cells.new.items ≡ cells.old.items ++ content.Free ∷ content.Product (length cells.old.items) child.source ∷ []) }
+    ensures cells { IfOk result (λ _. cells.new.items ≡ cells.old.items
+        ++ content.Free ∷ content.Product (length cells.old.items) child.source ∷ []) }
     ensures at { IfOk result (λ at. at ≡ spec.place (length cells.old.items + 1) child.target) }
 {
     let other = cells.len();
@@ -154,9 +161,12 @@ fn emit_sides(
     cells: &mut Vec<Cell>,
     work: &mut Vec<Equation>,
 ) -> Result<Option<Place>, AllocError>
-    ensures cells { IfOk result (λ _. cells.new.items ≡ cells.old.items ++ (emit_case (length cells.old.items) (Some left) (Some right)).cells) }
-    ensures equations { IfOk result (λ _. work.new.items ≡ work.old.items ++ (emit_case (length cells.old.items) (Some left) (Some right)).equations) }
-    ensures at { IfOk result (λ at. at ≡ (emit_case (length cells.old.items) (Some left) (Some right)).at) }
+    ensures cells { IfOk result (λ _. cells.new.items ≡ cells.old.items
+        ++ (emit_case (length cells.old.items) (Some left) (Some right)).cells) }
+    ensures equations { IfOk result (λ _. work.new.items ≡ work.old.items
+        ++ (emit_case (length cells.old.items) (Some left) (Some right)).equations) }
+    ensures at { IfOk result (λ at.
+        at ≡ (emit_case (length cells.old.items) (Some left) (Some right)).at) }
 {
     let first = cells.len();
     match left {
@@ -203,8 +213,10 @@ fn push_case(cells: &mut Vec<Cell>) -> Result<(), AllocError>
 
 /// The type of a word, by doubling from a bit.
 fn emit_word(word: &Word, cells: &mut Vec<Cell>) -> Result<Place, AllocError>
-    ensures cells { IfOk result (λ _. cells.new.items ≡ cells.old.items ++ word_cells (level_of word.now.width) (length cells.old.items)) }
-    ensures at { IfOk result (λ at. at ≡ spec.place (length cells.old.items) (length cells.old.items + 1 + level_of word.now.width)) }
+    ensures cells { IfOk result (λ _. cells.new.items ≡ cells.old.items
+        ++ word_cells (level_of word.now.width) (length cells.old.items)) }
+    ensures at { IfOk result (λ at.
+        at ≡ spec.place (length cells.old.items) (length cells.old.items + 1 + level_of word.now.width)) }
 {
     let unit = cells.len();
     push_both(cells, Cell::One, Cell::Sum(unit, unit))?;

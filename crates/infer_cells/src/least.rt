@@ -1,7 +1,8 @@
 //! The least typing of a list.
 
 ghost use Rattle.std.specs.Prelude.{◌≡◌, ◌<◌, ◌≤◌, ◌^◌, true, false, length, IfOk, IfErr};
-ghost use Rattle.simplicity.specs.Accepted.{most_weight};
+ghost use Rattle.simplicity.specs.Light.{IsLightTyping};
+ghost use Rattle.simplicity.specs.Limits.{most_weight};
 ghost use Rattle.simplicity.specs.Nodes.{HasRoot};
 ghost use Rattle.simplicity.specs.Typing.{HasNoTyping, IsLeast, IsLight, IsEntryLight};
 ghost use Rattle.type_table.specs.Kinds.{IsGrown};
@@ -18,7 +19,7 @@ use crate::typing::{NodeArrow, Typing};
 use crate::walk::type_cells;
 use std::alloc::{AllocError, Global};
 use term_core::NodeList;
-use type_table::{TypeId, TypeTable};
+use type_table::{MOST_WEIGHT, TypeId, TypeTable};
 
 /// The least typing of a list with an arrow at its root: at each node it lies at or below every other one.
 ///
@@ -34,10 +35,13 @@ pub fn infer(
     requires rooted { HasRoot nodes.now }
     requires source { source < length types.old }
     requires target { target < length types.old }
-    ensures least { IfOk result (λ typing. IsLeast nodes.now (arrow_between types.old source target) (typing_in types.new typing)) }
-    ensures light { IfOk result (λ typing. IsLight most_weight (typing_in types.new typing)) }
+    ensures least { IfOk result (λ typing.
+        IsLeast nodes.now (arrow_between types.old source target) (typing_in types.new typing)) }
+    ensures light { IfOk result (λ typing. IsLightTyping nodes.now (typing_in types.new typing)) }
     ensures there { IfOk result (λ typing. AreBelowBound (length types.new) typing) }
-    ensures refused { IfErr result (λ e. Refuses e (HasNoTyping nodes.now (arrow_between types.old source target)) (LeastIsHeavy nodes.now (arrow_between types.old source target))) }
+    ensures refused { IfErr result (λ e. Refuses e
+        (HasNoTyping nodes.now (arrow_between types.old source target))
+        (LeastIsHeavy nodes.now (arrow_between types.old source target))) }
     ensures grown { IsGrown types.old types.new }
 {
     let typing = match least_typing(alloc, nodes, source, target, types) {
@@ -63,9 +67,11 @@ fn least_typing(
     requires rooted { HasRoot nodes.now }
     requires source { source < length types.old }
     requires target { target < length types.old }
-    ensures least { IfOk result (λ typing. IsLeast nodes.now (arrow_between types.old source target) (typing_in types.new typing)) }
+    ensures least { IfOk result (λ typing.
+        IsLeast nodes.now (arrow_between types.old source target) (typing_in types.new typing)) }
     ensures there { IfOk result (λ typing. AreBelowBound (length types.new) typing) }
-    ensures none { IfErr result (λ e. OnNoTyping e (HasNoTyping nodes.now (arrow_between types.old source target))) }
+    ensures none { IfErr result (λ e.
+        OnNoTyping e (HasNoTyping nodes.now (arrow_between types.old source target))) }
     ensures grown { IsGrown types.old types.new }
 {
     let constraints = match constrain(alloc, nodes, source, target, types) {
@@ -127,7 +133,7 @@ fn is_entry_light(arrow: &Option<NodeArrow>, types: &TypeTable) -> bool
 {
     match arrow {
         Some(arrow) => {
-            types.weight(arrow.source) <= 4_194_304 && types.weight(arrow.target) <= 4_194_304
+            types.weight(arrow.source) <= MOST_WEIGHT && types.weight(arrow.target) <= MOST_WEIGHT
         }
         None => true,
     }

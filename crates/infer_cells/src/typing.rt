@@ -7,7 +7,7 @@ use std::marker::Model;
 use type_table::TypeId;
 
 /// The ids of a node's source and target.
-#[derive(Clone, Copy, Debug, PartialEq, Eq)]
+#[derive(Clone, Copy, Debug, PartialEq, Eq, Hash)]
 pub struct NodeArrow {
     pub source: TypeId,
     pub target: TypeId,

@@ -2,7 +2,7 @@
 
 ghost use Rattle.std.specs.Prelude.{◌≡◌, ◌+◌, ◌<◌, [], ◌∷◌, ◌++◌, length, slice_get, true, Some, None, IfOk, IfErr};
 ghost use Rattle.infer_cells.specs.Cells.{Assignment, Solution, SameSolutions, NoSolution, OnNoTyping, ArePlaced, AreWithin, FitFrom, is_root, load, RootPair};
-ghost use Rattle.infer_cells.specs.Merged.{merged, merged_parts};
+ghost use Rattle.infer_cells.specs.Merged.{equation, merged, merged_parts};
 
 use crate::cell::{Cell, Equation};
 use crate::refusal::SolveRefusal;
@@ -35,12 +35,15 @@ fn step(
 ) -> Result<(), SolveRefusal>
     requires placed { ArePlaced cells.old.items }
     requires within { AreWithin (length cells.old.items) (equation ∷ work.old.items) }
-    ensures same { IfOk result (λ _. SameSolutions cells.old.items (equation ∷ work.old.items) cells.new.items work.new.items) }
+    ensures same { IfOk result (λ _.
+        SameSolutions cells.old.items (equation ∷ work.old.items) cells.new.items work.new.items) }
     ensures placed { IfOk result (λ _. ArePlaced cells.new.items) }
     ensures within { IfOk result (λ _. AreWithin (length cells.new.items) work.new.items) }
     ensures length { IfOk result (λ _. length cells.new.items ≡ length cells.old.items) }
-    ensures less { IfOk result (λ _. load cells.new.items work.new.items < 1 + load cells.old.items work.old.items) }
-    ensures none { IfErr result (λ e. OnNoTyping e (NoSolution cells.old.items (equation ∷ work.old.items))) }
+    ensures less { IfOk result (λ _.
+        load cells.new.items work.new.items < 1 + load cells.old.items work.old.items) }
+    ensures none { IfErr result (λ e.
+        OnNoTyping e (NoSolution cells.old.items (equation ∷ work.old.items))) }
 {
     let left = find(cells.as_slice(), equation.left);
     let right = find(cells.as_slice(), equation.right);
@@ -88,12 +91,15 @@ fn link(
     requires placed { ArePlaced cells.old.items }
     requires pair { RootPair cells.old.items low.at high.at low.cell high.cell }
     requires within { AreWithin (length cells.old.items) work.old.items }
-    ensures same { IfOk result (λ _. SameSolutions cells.old.items (record { left = low.at; right = high.at } ∷ work.old.items) cells.new.items work.new.items) }
+    ensures same { IfOk result (λ _.
+        SameSolutions cells.old.items (equation low.at high.at ∷ work.old.items) cells.new.items work.new.items) }
     ensures placed { IfOk result (λ _. ArePlaced cells.new.items) }
     ensures within { IfOk result (λ _. AreWithin (length cells.new.items) work.new.items) }
     ensures length { IfOk result (λ _. length cells.new.items ≡ length cells.old.items) }
-    ensures less { IfOk result (λ _. load cells.new.items work.new.items < 1 + load cells.old.items work.old.items) }
-    ensures none { IfErr result (λ e. OnNoTyping e (NoSolution cells.old.items (record { left = low.at; right = high.at } ∷ work.old.items))) }
+    ensures less { IfOk result (λ _.
+        load cells.new.items work.new.items < 1 + load cells.old.items work.old.items) }
+    ensures none { IfErr result (λ e.
+        OnNoTyping e (NoSolution cells.old.items (equation low.at high.at ∷ work.old.items))) }
 {
     let content = match merge(low.cell, high.cell, work) {
         Ok(content) => content,
@@ -153,7 +159,8 @@ fn compare_parts(
     left: usize,
     right: usize,
 ) -> Result<(), AllocError>
-    ensures { IfOk result (λ _. work.new.items ≡ work.old.items ++ (record { left = first; right = left } ∷ record { left = second; right = right } ∷ [])) }
+    ensures { IfOk result (λ _. work.new.items ≡ work.old.items
+        ++ (equation first left ∷ equation second right ∷ [])) }
 {
     work.push(Equation {
         left: first,

@@ -3,7 +3,7 @@
 ghost use Rattle.std.specs.Prelude.{◌≡◌, ◌+◌, ◌<◌, ◌⊎◌, [], ◌∷◌, ◌++◌, length, slice_get, slice_set, ℕ, Some, IfOk, IfErr, IfSome, IfNone};
 ghost use Rattle.type_table.specs.Kinds.{IsGrown};
 ghost use Rattle.infer_cells.specs.Cells.{NoSolution, OnNoTyping, ArePlaced};
-ghost use Rattle.infer_cells.specs.Walk.{AreLeastIds, IsLeastId, IsPart, IsDone, AreDone, MarksMean, IsWalk, Has, IsPartAt, IsReadyAt, walk_load};
+ghost use Rattle.infer_cells.specs.Walk.{AreNew, NoneIsOpen, AreLeastIds, IsLeastId, IsPart, IsDone, AreDone, MarksMean, IsWalk, Has, IsPartAt, IsReadyAt, walk_load};
 ghost use Rattle.infer_cells.specs.declared.walk.Mark.TheVariants as mark;
 
 use crate::cell::Cell;
@@ -53,7 +53,7 @@ fn append(ids: &mut Vec<TypeId>, id: TypeId) -> Result<(), AllocError>
 
 /// So many marks, all new.
 fn new_marks(alloc: Global, count: usize) -> Result<Vec<Mark>, AllocError>
-    ensures { IfOk result (λ marks. (length marks.items ≡ count) × ((i : ℕ) (m : Mark) → slice_get marks.items i ≡ Some m → m ≡ mark.New)) }
+    ensures { IfOk result (λ marks. (length marks.items ≡ count) × AreNew marks.items) }
 {
     let mut marks = Vec::with_capacity(alloc, count)?;
     for _ in 0..count {
@@ -74,11 +74,11 @@ fn type_of(
     requires within { start < length cells.now }
     requires count { length marks.old.items ≡ length cells.now }
     requires done { MarksMean cells.now types.old marks.old.items }
-    requires closed { (i : ℕ) → slice_get marks.old.items i ≡ Some mark.Open → ⊥ }
+    requires closed { NoneIsOpen marks.old.items }
     ensures id { IfOk result (λ id. IsLeastId cells.now types.new start id) }
     ensures count { IfOk result (λ _. length marks.new.items ≡ length cells.now) }
     ensures done { IfOk result (λ _. MarksMean cells.now types.new marks.new.items) }
-    ensures closed { IfOk result (λ _. (i : ℕ) → slice_get marks.new.items i ≡ Some mark.Open → ⊥) }
+    ensures closed { IfOk result (λ _. NoneIsOpen marks.new.items) }
     ensures none { IfErr result (λ e. OnNoTyping e (NoSolution cells.now [])) }
     ensures grown { IsGrown types.old types.new }
 {
@@ -109,8 +109,11 @@ fn visit(
     requires within { top < length cells.now }
     requires walk { IsWalk cells.now types.old marks.old.items (path.old.items ++ top ∷ []) }
     ensures walk { IfOk result (λ _. IsWalk cells.now types.new marks.new.items path.new.items) }
-    ensures kept { IfOk result (λ _. (i : ℕ) → Has (path.old.items ++ top ∷ []) i ⊎ IsDone marks.old.items i → Has path.new.items i ⊎ IsDone marks.new.items i) }
-    ensures less { IfOk result (λ _. walk_load marks.new.items path.new.items < 1 + walk_load marks.old.items path.old.items) }
+    ensures kept { IfOk result (λ _. (i : ℕ) →
+        Has (path.old.items ++ top ∷ []) i ⊎ IsDone marks.old.items i →
+        Has path.new.items i ⊎ IsDone marks.new.items i) }
+    ensures less { IfOk result (λ _.
+        walk_load marks.new.items path.new.items < 1 + walk_load marks.old.items path.old.items) }
     ensures none { IfErr result (λ e. OnNoTyping e (NoSolution cells.now [])) }
     ensures grown { IsGrown types.old types.new }
 {
@@ -136,7 +139,8 @@ fn descend(
 ) -> Result<(), SolveRefusal>
     requires within { part < length marks.old.items }
     requires undone { IsDone marks.old.items part → ⊥ }
-    ensures none { IfErr result (λ e. OnNoTyping e (slice_get marks.old.items part ≡ Some mark.Open)) }
+    ensures none { IfErr result (λ e.
+        OnNoTyping e (slice_get marks.old.items part ≡ Some mark.Open)) }
     ensures new { IfOk result (λ _. slice_get marks.old.items part ≡ Some mark.New) }
     ensures marks { IfOk result (λ _. marks.new.items ≡ slice_set marks.old.items part mark.Open) }
     ensures path { IfOk result (λ _. path.new.items ≡ (path.old.items ++ top ∷ []) ++ part ∷ []) }

@@ -37,7 +37,8 @@ impl<const N: usize> Model for JetTable<N> {
 impl JetTable<JETS> {
     /// The place of the jet with a name.
     pub fn find(&self, name: &str) -> Option<usize>
-        ensures there { IfSome result (λ place. option_map row_name (slice_get self.now place) ≡ Some name.now) }
+        ensures there { IfSome result (λ place.
+            option_map row_name (slice_get self.now place) ≡ Some name.now) }
         ensures within { IfSome result (λ place. place < JETS) }
         ensures absent { IfNone result (¬ Contains (map row_name self.now) name.now) }
     {
@@ -91,7 +92,8 @@ pub fn profile() -> JetTable<JETS>
 fn first(rows: &mut [JetRow], at: usize) -> usize
     requires { at + 31 ≤ length rows.old }
     ensures place { result ≡ at + 31 }
-    ensures written { placed rows.new result ≡ placed rows.old at ++ flat_map family (jet.Add ∷ jet.All ∷ jet.And ∷ jet.Ch ∷ jet.Complement ∷ jet.Decrement ∷ jet.DivMod ∷ []) }
+    ensures written { placed rows.new result ≡ placed rows.old at ++ flat_map family
+        (jet.Add ∷ jet.All ∷ jet.And ∷ jet.Ch ∷ jet.Complement ∷ jet.Decrement ∷ jet.DivMod ∷ []) }
     ensures packed { packed_before rows.new result ≡ packed_before rows.old at }
 {
     let at = families::add(rows, at);
@@ -107,7 +109,9 @@ fn first(rows: &mut [JetRow], at: usize) -> usize
 fn second(rows: &mut [JetRow], at: usize) -> usize
     requires { at + 30 ≤ length rows.old }
     ensures place { result ≡ at + 30 }
-    ensures written { placed rows.new result ≡ placed rows.old at ++ flat_map family (jet.Divide ∷ jet.Divides ∷ jet.Eq ∷ jet.FullAdd ∷ jet.FullDecrement ∷ jet.FullIncrement ∷ jet.FullMultiply ∷ []) }
+    ensures written { placed rows.new result ≡ placed rows.old at ++ flat_map family
+        (jet.Divide ∷ jet.Divides ∷ jet.Eq ∷ jet.FullAdd ∷ jet.FullDecrement ∷ jet.FullIncrement
+        ∷ jet.FullMultiply ∷ []) }
     ensures packed { packed_before rows.new result ≡ packed_before rows.old at }
 {
     let at = families::divide(rows, at);
@@ -123,7 +127,9 @@ fn second(rows: &mut [JetRow], at: usize) -> usize
 fn third(rows: &mut [JetRow], at: usize) -> usize
     requires { at + 35 ≤ length rows.old }
     ensures place { result ≡ at + 35 }
-    ensures written { placed rows.new result ≡ placed rows.old at ++ flat_map family (jet.FullSubtract ∷ jet.High ∷ jet.Increment ∷ jet.IsOne ∷ jet.IsZero ∷ jet.Le ∷ jet.LeftExtend ∷ []) }
+    ensures written { placed rows.new result ≡ placed rows.old at ++ flat_map family
+        (jet.FullSubtract ∷ jet.High ∷ jet.Increment ∷ jet.IsOne ∷ jet.IsZero ∷ jet.Le
+        ∷ jet.LeftExtend ∷ []) }
     ensures packed { packed_before rows.new result ≡ packed_before rows.old at }
 {
     let at = families::full_subtract(rows, at);
@@ -139,7 +145,9 @@ fn third(rows: &mut [JetRow], at: usize) -> usize
 fn fourth(rows: &mut [JetRow], at: usize) -> usize
     requires { at + 55 ≤ length rows.old }
     ensures place { result ≡ at + 55 }
-    ensures written { placed rows.new result ≡ placed rows.old at ++ flat_map family (jet.LeftPadHigh ∷ jet.LeftPadLow ∷ jet.LeftRotate ∷ jet.LeftShift ∷ jet.LeftShiftWith ∷ jet.Leftmost ∷ jet.Low ∷ []) }
+    ensures written { placed rows.new result ≡ placed rows.old at ++ flat_map family
+        (jet.LeftPadHigh ∷ jet.LeftPadLow ∷ jet.LeftRotate ∷ jet.LeftShift ∷ jet.LeftShiftWith
+        ∷ jet.Leftmost ∷ jet.Low ∷ []) }
     ensures packed { packed_before rows.new result ≡ packed_before rows.old at }
 {
     let at = families::left_pad_high(rows, at);
@@ -155,7 +163,8 @@ fn fourth(rows: &mut [JetRow], at: usize) -> usize
 fn fifth(rows: &mut [JetRow], at: usize) -> usize
     requires { at + 29 ≤ length rows.old }
     ensures place { result ≡ at + 29 }
-    ensures written { placed rows.new result ≡ placed rows.old at ++ flat_map family (jet.Lt ∷ jet.Maj ∷ jet.Max ∷ jet.Median ∷ jet.Min ∷ jet.Modulo ∷ jet.Multiply ∷ []) }
+    ensures written { placed rows.new result ≡ placed rows.old at ++ flat_map family
+        (jet.Lt ∷ jet.Maj ∷ jet.Max ∷ jet.Median ∷ jet.Min ∷ jet.Modulo ∷ jet.Multiply ∷ []) }
     ensures packed { packed_before rows.new result ≡ packed_before rows.old at }
 {
     let at = families::lt(rows, at);
@@ -171,7 +180,9 @@ fn fifth(rows: &mut [JetRow], at: usize) -> usize
 fn sixth(rows: &mut [JetRow], at: usize) -> usize
     requires { at + 47 ≤ length rows.old }
     ensures place { result ≡ at + 47 }
-    ensures written { placed rows.new result ≡ placed rows.old at ++ flat_map family (jet.Negate ∷ jet.Or ∷ jet.RightExtend ∷ jet.RightPadHigh ∷ jet.RightPadLow ∷ jet.RightRotate ∷ jet.RightShift ∷ []) }
+    ensures written { placed rows.new result ≡ placed rows.old at ++ flat_map family
+        (jet.Negate ∷ jet.Or ∷ jet.RightExtend ∷ jet.RightPadHigh ∷ jet.RightPadLow ∷ jet.RightRotate
+        ∷ jet.RightShift ∷ []) }
     ensures packed { packed_before rows.new result ≡ packed_before rows.old at }
 {
     let at = families::negate(rows, at);
@@ -187,7 +198,9 @@ fn sixth(rows: &mut [JetRow], at: usize) -> usize
 fn seventh(rows: &mut [JetRow], at: usize) -> usize
     requires { at + 42 ≤ length rows.old }
     ensures place { result ≡ at + 42 }
-    ensures written { placed rows.new result ≡ placed rows.old at ++ flat_map family (jet.RightShiftWith ∷ jet.Rightmost ∷ jet.Some ∷ jet.Subtract ∷ jet.Verify ∷ jet.Xor ∷ jet.XorXor ∷ []) }
+    ensures written { placed rows.new result ≡ placed rows.old at ++ flat_map family
+        (jet.RightShiftWith ∷ jet.Rightmost ∷ jet.Some ∷ jet.Subtract ∷ jet.Verify ∷ jet.Xor
+        ∷ jet.XorXor ∷ []) }
     ensures packed { packed_before rows.new result ≡ packed_before rows.old at }
 {
     let at = families::right_shift_with(rows, at);

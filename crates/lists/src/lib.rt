@@ -11,6 +11,3 @@ mod text;
 pub use boxed::Boxed;
 pub use sequence::Sequence;
 pub use text::Text;
-
-#[cfg(test)]
-mod tests;

@@ -7,6 +7,12 @@ use Rattle.outside.specs.declared.files.FileRefusal.TheVariants.{NotHeld, TooLon
 abbrev pub Held : Type 0
 Held = Option (List ℕ → Option (List ℕ))
 
+-- a store as its caller knows it: what it holds, as far as it tells, how many calls of `read` there were, and how many failed
+pub record StoreState : Type 0 where
+  pub held : Held
+  pub reads : ℕ
+  pub faults : ℕ
+
 -- the files are told, and none has this name
 abbrev pub IsAbsent : Held → List ℕ → Type 0
 IsAbsent held name = IsSomeAnd held (λ file_of. file_of name ≡ None)
@@ -14,6 +20,10 @@ IsAbsent held name = IsSomeAnd held (λ file_of. file_of name ≡ None)
 -- the files are told, and the one of this name is longer than the limit
 abbrev pub IsLonger : Held → List ℕ → ℕ → Type 0
 IsLonger held name limit = IsSomeAnd held (λ file_of. IsSomeAnd (file_of name) (λ bytes. limit < length bytes))
+
+-- where the files are told, the one of this name is longer than the limit
+abbrev pub IsLongerIfTold : Held → List ℕ → ℕ → Type 0
+IsLongerIfTold held name limit = IfSome held (λ file_of. IsSomeAnd (file_of name) (λ bytes. limit < length bytes))
 
 -- the files are told, and the one of this name is no longer than the limit
 abbrev pub IsWithin : Held → List ℕ → ℕ → Type 0

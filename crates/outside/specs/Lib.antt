@@ -1,5 +1,6 @@
 pub mod Counts
 pub mod Files
+pub mod HostFiles
 pub mod MemoryFiles
 pub mod MemorySink
 pub mod Plans

@@ -1,5 +1,6 @@
 -- What files in memory hold, and which of their calls fail.
 use Rattle.std.specs.Prelude.{◌≡◌, ◌≢◌, ℕ, Bool, List, find, Option, Some, option_map, string_bytes, bytes_eq}
+use Rattle.outside.specs.Files.{StoreState}
 use Rattle.outside.specs.declared.memory_files.HeldFile.{HeldFile}
 use Rattle.outside.specs.declared.memory_files.MemoryFiles.{MemoryFiles}
 
@@ -26,6 +27,10 @@ read_count store = store.reads
 -- how many of them failed
 abbrev pub fault_count : MemoryFiles → ℕ
 fault_count store = store.faults
+
+-- it tells all that it holds
+abbrev pub state_of : MemoryFiles → StoreState
+state_of store = record { held = Some (file_of store); reads = read_count store; faults = fault_count store }
 
 -- a file is held at this name, and the other names are as before
 pub record HoldsAt (old new : List ℕ → Option (List ℕ)) (name bytes : List ℕ) : Type 0 where

@@ -1,5 +1,7 @@
 -- What a sink in memory has taken, and which of its calls fail.
-use Rattle.std.specs.Prelude.{◌≡◌, ℕ, ◌-◌, List, length, Option}
+use Rattle.std.specs.Prelude.{◌≡◌, ℕ, ◌-◌, List, length, Option, Some}
+use Rattle.outside.specs.Counts.{raised}
+use Rattle.outside.specs.Sink.{SinkState}
 use Rattle.outside.specs.Plans.{kept_in}
 use Rattle.outside.specs.declared.memory_sink.MemorySink.{MemorySink}
 
@@ -26,6 +28,14 @@ fault_count sink = sink.faults
 -- how many bytes the call of this number is to keep, where it is to fail
 abbrev pub planned_fault : MemorySink → ℕ → Option ℕ
 planned_fault sink = kept_in sink.planned.items
+
+-- how many bytes the next call with a piece is to keep, where it is to fail
+abbrev pub next_fault : MemorySink → Option ℕ
+next_fault sink = planned_fault sink (raised (call_count sink))
+
+-- it tells all that it took
+abbrev pub state_of : MemorySink → SinkState
+state_of sink = record { contents = Some (taken_bytes sink); faults = fault_count sink }
 
 -- the same bytes were taken by the same calls
 pub record SameCalls (old new : MemorySink) : Type 0 where

@@ -8,6 +8,7 @@ mod files;
 mod host_files;
 mod memory_files;
 mod memory_sink;
+mod opener;
 mod sink;
 mod std_sink;
 

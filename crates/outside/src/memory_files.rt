@@ -106,13 +106,9 @@ fn find_bytes<'a>(files: &'a [HeldFile], name: &str) -> Option<&'a [u8]>
 }
 
 impl Files for MemoryFiles {
-    ghost use Rattle.outside.specs.MemoryFiles.{file_of, failing_calls, read_count, fault_count};
+    ghost use Rattle.outside.specs.MemoryFiles.{file_of, failing_calls, read_count, fault_count, state_of};
 
-    ghost held = { λ store. Some (file_of store) };
-
-    ghost faults = { fault_count };
-
-    ghost reads = { read_count };
+    ghost state = { state_of };
 
     /// Fails exactly where the call's number is one of those that are to fail.
     fn read(&mut self, alloc: Global, name: &str, limit: u64) -> Result<Vec<u8>, FileRefusal>

@@ -87,16 +87,15 @@ fn append(taken: &mut Vec<u8>, bytes: &[u8])
 }
 
 impl Sink for MemorySink {
-    ghost use Rattle.outside.specs.MemorySink.{taken_bytes, room_of, room_left, call_count, fault_count, planned_fault};
+    ghost use Rattle.outside.specs.MemorySink.{taken_bytes, room_of, room_left, call_count, fault_count, next_fault, planned_fault, state_of};
 
-    ghost contents = { λ sink. Some (taken_bytes sink) };
-
-    ghost faults = { fault_count };
+    ghost state = { state_of };
 
     /// Fails exactly where a failure of the call is planned or its piece passes the room. A call with
     /// an empty piece changes nothing and never fails.
     fn put(&mut self, piece: &[u8]) -> Result<(), SinkFailed>
-        ensures taken { taken_bytes self.new ≡ taken_bytes self.old ++ kept_of (planned_fault self.old (raised (call_count self.old))) (room_left self.old) piece.now }
+        ensures taken { taken_bytes self.new
+            ≡ taken_bytes self.old ++ kept_of (next_fault self.old) (room_left self.old) piece.now }
         ensures room { room_of self.new ≡ room_of self.old }
         ensures planned { planned_fault self.new ≡ planned_fault self.old }
 
@@ -107,8 +106,8 @@ impl Sink for MemorySink {
         ensures rises { OnErr result (HasRisen (fault_count self.old) (fault_count self.new)) }
         ensures never_fall { fault_count self.old ≤ fault_count self.new }
 
-        ensures fits { planned_fault self.old (raised (call_count self.old)) ≡ None → length piece.now ≤ room_left self.old → IsOk result }
-        ensures fails { IsSome (planned_fault self.old (raised (call_count self.old))) → piece.now ≢ [] → IsErr result }
+        ensures fits { next_fault self.old ≡ None → length piece.now ≤ room_left self.old → IsOk result }
+        ensures fails { IsSome (next_fault self.old) → piece.now ≢ [] → IsErr result }
         ensures passes { room_left self.old < length piece.now → IsErr result }
         ensures empty { piece.now ≡ [] → IsOk result }
     {

@@ -1,8 +1,7 @@
 // The streams of the system. Nothing is told of what they took.
-ghost use Rattle.std.specs.Prelude.{◌≡◌, ◌≤◌, [], None, IsOk, OnOk, OnErr};
-ghost use Rattle.std.specs.Io.KnownBytes.{Appends};
-ghost use Rattle.outside.specs.Counts.{HasRisen};
-ghost use Rattle.outside.specs.Streams.{AppendsFront};
+ghost use Rattle.std.specs.Prelude.{◌≡◌, ◌≤◌, [], IsOk, OnOk, OnErr};
+ghost use Rattle.outside.specs.Counts.{raised, HasRisen};
+ghost use Rattle.outside.specs.Streams.{Takes, TakesFront};
 
 use crate::{Sink, SinkFailed};
 use std::io::Write;
@@ -16,28 +15,32 @@ pub struct StdSink<W> {
 }
 
 impl StdSink<Stdout> {
+    ghost use Rattle.outside.specs.StdSink.{fault_count};
+
     /// Standard output.
     pub fn output(runtime: &HostRuntime) -> Self
-        ensures { ⟦<StdSink<Stdout> as Sink>⟧.faults result ≡ 0 }
+        ensures { fault_count result ≡ 0 }
     {
         StdSink::new(runtime.stdout())
     }
 }
 
 impl StdSink<Stderr> {
+    ghost use Rattle.outside.specs.StdSink.{fault_count};
+
     /// Standard error.
     pub fn errors(runtime: &HostRuntime) -> Self
-        ensures { ⟦<StdSink<Stderr> as Sink>⟧.faults result ≡ 0 }
+        ensures { fault_count result ≡ 0 }
     {
         StdSink::new(runtime.stderr())
     }
 }
 
 impl<W: Write> StdSink<W> {
-    ghost use Rattle.outside.specs.StdSink.{stream_of};
+    ghost use Rattle.outside.specs.StdSink.{stream_of, fault_count};
 
     pub fn new(stream: W) -> Self
-        ensures faults { ⟦<StdSink<W> as Sink>⟧.faults result ≡ 0 }
+        ensures faults { fault_count result ≡ 0 }
         ensures stream { stream_of result ≡ stream }
     {
         StdSink { stream, faults: 0 }
@@ -46,8 +49,8 @@ impl<W: Write> StdSink<W> {
 
 // Writes the whole piece, in as many parts as the stream takes it. A part of no bytes is a failure.
 fn write_whole<W: Write>(stream: &mut W, piece: &[u8]) -> Result<(), SinkFailed>
-    ensures ok { OnOk result (Appends (W.contents stream.old) (W.contents stream.new) piece.now) }
-    ensures err { OnErr result (AppendsFront (W.contents stream.old) (W.contents stream.new) piece.now) }
+    ensures ok { OnOk result (Takes W.contents stream.old stream.new piece.now) }
+    ensures err { OnErr result (TakesFront W.contents stream.old stream.new piece.now) }
 {
     let mut rest = piece;
     'parts: while !rest.is_empty() {
@@ -63,18 +66,17 @@ fn write_whole<W: Write>(stream: &mut W, piece: &[u8]) -> Result<(), SinkFailed>
 }
 
 impl<W: Write> Sink for StdSink<W> {
-    ghost use Rattle.outside.specs.StdSink.{stream_of, fault_count};
+    ghost use Rattle.outside.specs.StdSink.{stream_of, fault_count, state_of};
 
-    ghost contents = { λ _. None };
-
-    ghost faults = { fault_count };
+    ghost state = { state_of };
 
     /// A piece that is taken is written whole to the stream, of one that isn't some first bytes.
     fn put(&mut self, piece: &[u8]) -> Result<(), SinkFailed>
-        ensures written { OnOk result (Appends (W.contents (stream_of self.old)) (W.contents (stream_of self.new)) piece.now) }
-        ensures part { OnErr result (AppendsFront (W.contents (stream_of self.old)) (W.contents (stream_of self.new)) piece.now) }
+        ensures written { OnOk result (Takes W.contents (stream_of self.old) (stream_of self.new) piece.now) }
+        ensures part { OnErr result (TakesFront W.contents (stream_of self.old) (stream_of self.new) piece.now) }
         ensures nothing { piece.now ≡ [] → stream_of self.new ≡ stream_of self.old }
-        ensures failed { OnErr result (HasRisen (fault_count self.old) (fault_count self.new)) }
+        ensures fault { OnErr result (fault_count self.new ≡ raised (fault_count self.old)) }
+        ensures rises { OnErr result (HasRisen (fault_count self.old) (fault_count self.new)) }
         ensures no_fault { OnOk result (fault_count self.new ≡ fault_count self.old) }
         ensures never_fall { fault_count self.old ≤ fault_count self.new }
         ensures empty { piece.now ≡ [] → IsOk result }
@@ -93,10 +95,10 @@ impl<W: Write> Sink for StdSink<W> {
 #[cfg(test)]
 mod tests {
     use super::*;
-    use std::fs;
     use std::fs::File;
     use std::io::BufWriter;
     use std::test::Fail;
+    use std::{fs, io};
 
     const PATH: &str = "outside-std-sink-test";
 
@@ -119,6 +121,42 @@ mod tests {
 
         assert_eq!(rt; StdSink::output(&rt).put(b"out\n"), Ok(()));
         assert_eq!(rt; StdSink::errors(&rt).put(b"err\n"), Ok(()));
+        Ok(())
+    }
+    // Takes one byte at a time, and none once it has three.
+    #[derive(Drop)]
+    struct Slow {
+        taken: [u8; 3],
+        count: usize,
+    }
+
+    impl Write for Slow {
+        fn write(&mut self, bytes: &[u8]) -> io::Result<usize> {
+            if bytes.is_empty() || self.count >= 3 {
+                return Ok(0);
+            }
+            self.taken[self.count] = bytes[0];
+            self.count += 1;
+            Ok(1)
+        }
+
+        fn flush(&mut self) -> io::Result<()> {
+            Ok(())
+        }
+    }
+
+    #[test]
+    fn writes_a_byte_at_a_time(rt: HostRuntime) -> Result<(), Fail> {
+        let mut sink = StdSink::new(Slow {
+            taken: [0; 3],
+            count: 0,
+        });
+        assert_eq!(rt; sink.put(b"ab"), Ok(()));
+        assert_eq!(rt; (sink.stream.count, sink.faults), (2, 0));
+        assert_eq!(rt; sink.put(b"cd"), Err(SinkFailed));
+        assert_eq!(rt; sink.put(b""), Ok(()));
+        assert_eq!(rt; sink.put(b"e"), Err(SinkFailed));
+        assert_eq!(rt; (sink.stream.taken, sink.faults), (*b"abc", 2));
         Ok(())
     }
 }

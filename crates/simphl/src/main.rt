@@ -1,19 +1,14 @@
 //! A proved compiler from a profile of SimplicityHL to Simplicity bits.
 #![tactic(auto)]
 
-mod build;
-mod files;
-mod outcome;
 #[cfg(test)]
 mod tests;
-mod top;
 
-use command_outcome::Status;
 use outside::{HostFiles, StdSink};
 use std::env;
 use std::io::ErrorKind;
 use std::process::ExitCode;
-use top::simphl;
+use top_call::{Status, simphl};
 
 // The status where the system doesn't give the words as text.
 const WORDS_ARE_NO_TEXT: u8 = 10;

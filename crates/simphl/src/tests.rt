@@ -1,10 +1,10 @@
 //! Commands over files and sinks in memory.
 
-use crate::top::simphl;
 use command_outcome::Status;
 use outside::{MemoryFiles, MemorySink};
 use std::alloc::{AllocError, Global};
 use std::test::Fail;
+use top_call::simphl;
 
 /// The bytes that each sink has room for.
 const ROOM: usize = 80;

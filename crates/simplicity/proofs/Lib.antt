@@ -1,8 +1,8 @@
 pub mod Naturals
 pub mod Carries
-mod Rows
+pub mod Rows
 mod RowBits
-mod RowRuns
+pub mod RowRuns
 mod RowRoots
 mod RowRefusals
 mod RowWitness
@@ -11,7 +11,7 @@ pub mod Inversion
 pub mod Typings
 pub mod Below
 mod RowTypings
-mod Sharing
+pub mod Sharing
 mod RowAccepted
 pub mod Values
 pub mod Meaning
@@ -21,3 +21,9 @@ pub mod Bits
 pub mod Tuples
 pub mod Spell
 mod More
+pub mod Arrows
+pub mod Flowed
+pub mod Digits
+pub mod Loops
+mod RowTerms
+pub mod Listed

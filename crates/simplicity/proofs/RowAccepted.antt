@@ -7,7 +7,8 @@ use Rattle.simplicity.specs.Nodes.{Node}
 use Rattle.simplicity.specs.Typing.{Typing, Arrow, arrow, IsLeast, IsLight, IsEntryLight, witness_targets}
 use Rattle.simplicity.specs.Order.{IsOrdered}
 use Rattle.simplicity.specs.Spelling.{Spelled}
-use Rattle.simplicity.specs.Accepted.{Accepted, most_weight, most_nodes}
+use Rattle.simplicity.specs.Limits.{most_weight, most_nodes}
+use Rattle.simplicity.specs.Accepted.{Accepted}
 use Rattle.simplicity.proofs.Sharing.{shared_by, mark_with, are_apart, numbers_of, both_true}
 use Rattle.simplicity.proofs.Rows.{empty_bytes, empty_nodes, empty_typing, same_bytes, same_nodes, same_typing, second_bytes, second_nodes, second_typing, swap_bytes, swap_nodes, swap_typing, five_bytes, five_nodes, five_typing, assert_bytes, assert_nodes, assert_typing, byte, two_bytes}
 use Rattle.simplicity.proofs.RowBits.{empty_spelled, same_spelled, second_spelled, swap_spelled, five_spelled, assert_spelled}
@@ -41,7 +42,7 @@ accepted : (bytes : List ℕ) (root : Arrow) (ns : List Node) (ts : Typing) → 
 accepted bytes root ns ts spelled few ordered least apart light none = record {
   spelled = spelled;
   few = few;
-  canonical = record { ordered = ordered; least = least; shared = shared_by mark_with ns ts apart };
+  canonical = record { placed = spelled.placed; ordered = ordered; least = least; shared = shared_by mark_with ns ts apart };
   light = light_by most_weight ts light;
   values = record { typed = rw none tt; padded = record { zeros = 0; few = omega arith; same = refl } };
 }

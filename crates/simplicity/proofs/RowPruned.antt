@@ -1,6 +1,7 @@
 -- A program that tests its witness, pruned by a true one: hiding, reordering and shrinking as they are defined.
-use Rattle.std.proofs.Common.{◌≡◌, refl, ap, sym, subst, ◌∙◌, ℕ, zero, suc, Bool, true, false, List, [], ◌∷◌, Option, Some, None, arith, eqb-true}
+use Rattle.std.proofs.Common.{◌≡◌, refl, ap, sym, subst, ◌∙◌, ℕ, zero, suc, Bool, true, false, List, [], ◌∷◌, Option, Some, None, arith, eqb-true, ◌+◌, ◌≤◌, ◌||◌}
 use Rattle.std.specs.Prelude.{slice_get, nat_eq}
+use Rattle.std.specs.List.{position_or_len}
 use Rattle.simplicity.specs.Types.{Kind, One, Sum, Product, Value, UnitValue, Inl, Inr, Pair}
 use Rattle.simplicity.specs.Terms as term
 use Rattle.simplicity.specs.Nodes as node
@@ -9,8 +10,10 @@ use Rattle.simplicity.specs.Typing as row
 use Rattle.simplicity.specs.Typing.{Typing, Arrow, arrow, HasArrow, IsTypingAt, IsTypingBelow, IsLeast}
 use Rattle.simplicity.specs.Roots.{root}
 use Rattle.simplicity.specs.Visits.{Visit, visit, Visited, Start, Onward, leads, IsVisitedLeft, IsVisitedRight, IsCaseAt}
-use Rattle.simplicity.specs.Pruning.{Choice, Keep, HideLeft, HideRight, cut, HidesUnvisited, gathered, renamed, IsMerged, IsPruned}
+use Rattle.simplicity.specs.Pruning.{Choice, Keep, HideLeft, HideRight, cut, HidesUnvisited, gathered, renamed, IsOpenAt, IsMerged, IsPruned}
 use Rattle.simplicity.specs.Shared.{IsCanonicalUnder}
+use Rattle.simplicity.specs.Order.{has, post_order}
+use Rattle.simplicity.specs.Places.{Became, ArePlaces}
 use Rattle.simplicity.proofs.Typings.{meets_at, hidden_at, typing_length, HasFrom, same_list}
 use Rattle.simplicity.proofs.Inversion.{unit_meets, comp_meets, pair_parts, assertr_meets}
 use Rattle.simplicity.proofs.RowTypings.{same_arrow}
@@ -108,16 +111,19 @@ hide_right false e = absurd (cc)
 visited_right : (i : ℕ) → i ≡ 4 → IsVisitedRight test_nodes test_witness UnitValue i
 visited_right i e = subst (IsVisitedRight test_nodes test_witness UnitValue) (sym e) ((3, 3, refl), UnitValue, UnitValue, case_visited)
 
+open_at : (i : ℕ) → i ≡ 4 → IsOpenAt test_nodes i
+open_at i e = subst (IsOpenAt test_nodes) (sym e) (record { left = 3; right = 3; here = refl; left_shown = tt; right_shown = tt })
+
 unvisited : HidesUnvisited test_nodes test_witness UnitValue test_choices
 unfolding hide_if
 unvisited = record {
   left = λ i. (
-    λ e. let at : i ≡ 4 = eqb-true i 4 (hide_left (nat_eq i 4) e) in (visited_right i at, not_left i at),
-    λ h. let at : i ≡ 4 = case_at i h.0.0 in subst (λ (k : ℕ). test_choices k ≡ HideLeft) (sym at) refl,
+    λ e. let at : i ≡ 4 = eqb-true i 4 (hide_left (nat_eq i 4) e) in (open_at i at, visited_right i at, not_left i at),
+    λ h. let at : i ≡ 4 = case_at i h.1.0 in subst (λ (k : ℕ). test_choices k ≡ HideLeft) (sym at) refl,
   );
   right = λ i. (
     λ e. absurd (hide_right (nat_eq i 4) e),
-    λ h. absurd (not_left i (case_at i h.0.0) h.0),
+    λ h. absurd (not_left i (case_at i h.1.0) h.1),
   );
 }
 
@@ -213,13 +219,60 @@ mark_apart n e = mark_with n e
 
 kept_canonical : IsCanonicalUnder kept_nodes (arrow One One) kept_typing
 unfolding mark_apart
-kept_canonical = record { ordered = refl; least = kept_least; shared = shared_by mark_apart kept_nodes kept_typing refl }
+kept_canonical = record { placed = (tt, (tt, ((tt, tt), (tt, (tt, (tt, ((tt, tt), tt))))))); ordered = refl; least = kept_least; shared = shared_by mark_apart kept_nodes kept_typing refl }
+
+-- nothing is merged, so each node comes from the place that ended at its index
+abbrev kept_places : List ℕ
+kept_places = 6 ∷ 7 ∷ 8 ∷ 3 ∷ 9 ∷ 10 ∷ 11 ∷ []
+
+kept_order : post_order hidden_nodes ≡ kept_places
+unfolding hide_if
+kept_order = refl
+
+position_at : (b : Bool) (x y : ℕ) (ys : List ℕ) → nat_eq x y ≡ b → (has x ys ≡ true → slice_get ys (position_or_len (nat_eq x) ys) ≡ Some x) → b || has x ys ≡ true →
+    slice_get (y ∷ ys) (position_or_len (nat_eq x) (y ∷ ys)) ≡ Some x
+position_at true x y ys e rest h = rw e (ap Some (sym (eqb-true x y e)))
+position_at false x y ys e rest h =
+    let later : 1 + position_or_len (nat_eq x) ys ≡ suc (position_or_len (nat_eq x) ys) = omega arith in
+    rw e (ap (slice_get (y ∷ ys)) later ∙ rest h)
+
+position_there : (x : ℕ) (xs : List ℕ) → has x xs ≡ true → slice_get xs (position_or_len (nat_eq x) xs) ≡ Some x
+position_there x [] h = absurd (cc)
+position_there x (y ∷ ys) h = position_at (nat_eq x y) x y ys refl (position_there x ys) h
+
+same_place : (x y : ℕ) → Some x ≡ Some y → x ≤ y
+same_place x y e = let same : x ≡ y = cc in omega arith
+
+kept_became : (new old place : ℕ) → Some place ≡ Some old → Became hidden_nodes (λ i. i) place new → Became hidden_nodes (λ i. i) old new
+kept_became new old place at from = let same : place ≡ old = cc in subst (λ (x : ℕ). Became hidden_nodes (λ i. i) x new) same from
+
+became_at : (new old : ℕ) → slice_get kept_places new ≡ Some old → Became hidden_nodes (λ i. i) old new
+unfolding hide_if
+became_at zero old at = kept_became 0 old 6 at (record { reached = refl; goes = refl })
+became_at (suc zero) old at = kept_became 1 old 7 at (record { reached = refl; goes = refl })
+became_at (suc (suc zero)) old at = kept_became 2 old 8 at (record { reached = refl; goes = refl })
+became_at (suc (suc (suc zero))) old at = kept_became 3 old 3 at (record { reached = refl; goes = refl })
+became_at (suc (suc (suc (suc zero)))) old at = kept_became 4 old 9 at (record { reached = refl; goes = refl })
+became_at (suc (suc (suc (suc (suc zero))))) old at = kept_became 5 old 10 at (record { reached = refl; goes = refl })
+became_at (suc (suc (suc (suc (suc (suc zero)))))) old at = kept_became 6 old 11 at (record { reached = refl; goes = refl })
+became_at (suc (suc (suc (suc (suc (suc (suc n))))))) old at = absurd (cc)
+
+kept_from : ArePlaces hidden_nodes kept_nodes (λ i. i) kept_places
+unfolding hide_if
+kept_from = record {
+  count = refl;
+  became = became_at;
+  least = λ new old other at from.
+      let there : slice_get kept_places (position_or_len (nat_eq other) kept_places) ≡ Some other = position_there other kept_places from.reached in
+      same_place old other (sym at ∙ ap (slice_get kept_places) (sym from.goes) ∙ there);
+}
 
 test_pruned : IsPruned test_nodes test_witness kept_nodes kept_typing test_witness
 unfolding hide_if
 test_pruned = record {
   hidden = hidden_nodes;
+  places = kept_places;
   hide = record { choices = test_choices; unvisited = unvisited; is_cut = refl };
-  reordered = record { typing = kept_typing; place = λ i. i; least = kept_least; merged = merged_self; canonical = kept_canonical };
+  reordered = record { typing = kept_typing; place = λ i. i; least = kept_least; merged = merged_self; canonical = kept_canonical; from = kept_from };
   values = refl;
 }

@@ -1,7 +1,5 @@
--- Bytes that spell no list, and the weight of nested pairs.
-use Rattle.std.proofs.Common.{◌≡◌, refl, ap, ℕ, zero, suc, ◌+◌, ◌-◌, ◌*◌, ◌^◌, ◌<◌, Bool, true, false, List, [], ◌∷◌, ◌++◌, length, replicate, arith}
-use Rattle.std.proofs.Math.Nat.{pow-suc}
-use Rattle.simplicity.specs.Types.{Kind, One, Product, weight}
+-- Bytes that spell no list.
+use Rattle.std.proofs.Common.{◌≡◌, refl, ap, ℕ, zero, suc, ◌-◌, ◌^◌, ◌<◌, Bool, true, false, List, [], ◌∷◌, ◌++◌, length, replicate, arith}
 use Rattle.simplicity.specs.Nodes as node
 use Rattle.simplicity.specs.Nodes.{Node, CanFollow}
 use Rattle.simplicity.specs.Spelling.{number_bits, natural, node_bits, program_bits, Spelled, log2}
@@ -88,22 +86,3 @@ nothing_spelled (n ∷ m ∷ ns) s =
     let e : [] ≡ program_bits (n ∷ m ∷ ns) ++ replicate s.padded.zeros false = s.padded.same in
     let begins = first_bit (length (n ∷ m ∷ ns)) (omega arith) in
     absurd (cc)
-
--- pairs of pairs of units
-nested : ℕ → Kind
-nested zero = One
-nested (suc n) = Product (nested n) (nested n)
-
-nested_weight : (n : ℕ) → weight (nested n) + 1 ≡ 2 ^ suc n
-unfolding nested
-nested_weight zero = refl
-nested_weight (suc n) =
-    let rest = nested_weight n in
-    let power : 2 ^ suc (suc n) ≡ 2 ^ suc n * 2 = pow-suc 2 (suc n) in
-    omega (arith, rest, power)
-
--- 21 of them
-nested_21 : weight (nested 21) ≡ 4194303
-nested_21 =
-    let rest = nested_weight 21 in
-    omega (arith, rest)

@@ -6,11 +6,11 @@ use Rattle.simplicity.specs.Bounds.{bounds}
 use Rattle.simplicity.proofs.Rows.{program, empty_nodes, empty_typing, same_nodes, same_typing, swap_nodes, swap_typing, five_nodes, five_typing, assert_nodes, assert_typing, byte, two_bytes}
 
 -- the state after at most so many turns
-abbrev after_turn : (State → State) → State → Turn → State
+abbrev pub after_turn : (State → State) → State → Turn → State
 after_turn go s (Next u) = go u
 after_turn go s _ = s
 
-abbrev after : ℕ → Program → State → State
+abbrev pub after : ℕ → Program → State → State
 after zero p s = s
 after (suc n) p s = after_turn (after n p) s (turn p s)
 
@@ -22,7 +22,7 @@ reach_turn go p s Ends e on = Here s
 reach_turn go p s Fails e on = Here s
 reach_turn go p s Stuck e on = Here s
 
-reach : (n : ℕ) (p : Program) (s : State) → Reaches p s (after n p s)
+pub reach : (n : ℕ) (p : Program) (s : State) → Reaches p s (after n p s)
 reach zero p s = Here s
 reach (suc n) p s = reach_turn (after n p) p s (turn p s) refl (λ u. reach n p u)
 

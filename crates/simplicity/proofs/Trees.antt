@@ -106,7 +106,7 @@ witness_skipped ts node.Witness None ns es k b meets is = elim meets [ ]
 witness_skipped ts node.Witness (Some a) ns es k b meets is = rw add-one is
 witness_skipped ts _ e ns es k b meets is = is
 
-witness_target : (ts : Typing) (ns : List Node) (es : Typing) (i : ℕ) (a b : Kind) → EntriesMeet ts ns es → slice_get ns i ≡ Some node.Witness →
+pub witness_target : (ts : Typing) (ns : List Node) (es : Typing) (i : ℕ) (a b : Kind) → EntriesMeet ts ns es → slice_get ns i ≡ Some node.Witness →
     slice_get es i ≡ Some (Some (arrow a b)) → slice_get (witness_targets ns es) (witness_number ns i) ≡ Some b
 witness_target ts [] es i a b h is has = absurd (cc)
 witness_target ts (n ∷ ns) [] i a b h is has = elim h [ ]
@@ -193,7 +193,7 @@ pub record Standing (ns : List Node) (i : ℕ) : Type 0 where
   pub there : slice_get ns i ≡ Some node_there
   pub shown : IsShown (Some node_there)
 
-standing : (ns : List Node) (i : ℕ) (t : Term) → Unfolds ns i t → Standing ns i
+pub standing : (ns : List Node) (i : ℕ) (t : Term) → Unfolds ns i t → Standing ns i
 standing ns _ _ (node.UnfoldIden i is) = record { node_there = node.Iden; there = is; shown = tt }
 standing ns _ _ (node.UnfoldUnit i is) = record { node_there = node.UnitNode; there = is; shown = tt }
 standing ns _ _ (node.UnfoldInjl i j t is on) = record { node_there = node.Injl j; there = is; shown = tt }
@@ -209,7 +209,7 @@ standing ns _ _ (node.UnfoldFail i e is) = record { node_there = node.Fail e; th
 standing ns _ _ (node.UnfoldWitness i is) = record { node_there = node.Witness; there = is; shown = tt }
 standing ns _ _ (node.UnfoldWord i k n is) = record { node_there = node.Word k n; there = is; shown = tt }
 
-unfolds_arrow : (ns : List Node) (ts : Typing) (i : ℕ) (t : Term) → IsTyping ns ts → Unfolds ns i t → HasNoArrow ts i → ⊥
+pub unfolds_arrow : (ns : List Node) (ts : Typing) (i : ℕ) (t : Term) → IsTyping ns ts → Unfolds ns i t → HasNoArrow ts i → ⊥
 unfolds_arrow ns ts i t h on none = let s = standing ns i t on in has_arrow ns ts i s.node_there h s.there s.shown none
 
 pub unfolding_typed : (ns : List Node) (ts : Typing) (i : ℕ) (t : Term) → IsTyping ns ts → Unfolds ns i t → (a b : Kind) → HasArrow ts i a b →
@@ -246,7 +246,7 @@ unfolding_typed ns ts _ _ h (node.UnfoldWitness i is) a b has =
 unfolding_typed ns ts _ _ h (node.UnfoldWord i k n is) a b has = word_typed (witness_targets ns ts) ts k n a b (meets_at ts ns i (node.Word k n) a b h is has)
 
 -- the tree of a node of a placed and typed list has the node's arrow
-shown_unless_hidden : (ns : List Node) (ts : Typing) (i : ℕ) (a b : Kind) (n : Node) → IsTyping ns ts → HasArrow ts i a b → slice_get ns i ≡ Some n → Seen n →
+pub shown_unless_hidden : (ns : List Node) (ts : Typing) (i : ℕ) (a b : Kind) (n : Node) → IsTyping ns ts → HasArrow ts i a b → slice_get ns i ≡ Some n → Seen n →
     IsShown (Some n)
 shown_unless_hidden ns ts i a b n h has is (SeenShown shown) = shown
 shown_unless_hidden ns ts i a b n h has is (SeenHidden e same) =

@@ -1,5 +1,6 @@
 -- Bounds on a run from the bits alone (after the Simplicity Technical Report, "Static Analysis"; the formulas are this project's own).
 use Rattle.std.specs.Prelude.{ℕ, ◌+◌, ◌-◌, max, List, [], ◌∷◌, ◌++◌, length, Option, Some, None, slice_get}
+use Rattle.simplicity.specs.Limits.{capped}
 use Rattle.simplicity.specs.Types.{Kind, One, Sum, Product, size, pad_left, pad_right, word_kind}
 use Rattle.simplicity.specs.Nodes.{Node}
 use Rattle.simplicity.specs.Nodes as node
@@ -11,7 +12,8 @@ writing_work One = 0
 writing_work (Sum a b) = 1 + max (1 + pad_left a b + writing_work a) (1 + pad_right a b + writing_work b)
 writing_work (Product a b) = writing_work a + writing_work b
 
--- the bounds of a term: its work, the cells and frames that it takes beside those that are there, and the nodes on its tree's longest way down
+-- the bounds of a term: its work, the cells and frames that it takes beside those that are there, and its depth, the nodes on its tree's longest way down;
+-- the depth bounds the nodes that a run has open at once, begun and not yet done, and not the items left to do, of which an open node may have many
 pub record Bounds : Type 0 where
   pub work : ℕ
   pub cells : ℕ
@@ -91,3 +93,7 @@ whole a t = record { work = t.work; cells = size a.source + size a.target + t.ce
 
 abbrev pub bounds : List Node → Typing → Bounds
 bounds ns ts = whole (root_arrow ns ts) (bounds_at (node_list_bounds ns ts) (length ns - 1))
+
+-- the bounds as a program states them, in 64 bits each
+abbrev pub stated : Bounds → Bounds
+stated b = record { work = capped b.work; cells = capped b.cells; frames = capped b.frames; depth = capped b.depth }

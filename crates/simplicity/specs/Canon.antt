@@ -1,5 +1,5 @@
 -- Terms with a declared arrow at every place, and the canonical list of one (this project's own).
-use Rattle.std.specs.Prelude.{◌≡◌, ℕ, ◌-◌, ◌<◌, List, length, map, Some, slice_get}
+use Rattle.std.specs.Prelude.{◌≡◌, ℕ, ◌+◌, ◌-◌, ◌<◌, List, length, map, Some, None, slice_get}
 use Rattle.std.specs.Option.{unwrap_or}
 use Rattle.simplicity.specs.Terms.{Term}
 use Rattle.simplicity.specs.Terms as term
@@ -44,7 +44,8 @@ erased (AssertL a s h) = term.AssertL (erased s) h
 erased (AssertR a h t) = term.AssertR h (erased t)
 erased (Fail a e) = term.Fail e
 
--- a node of a list stands for a declared term: its declared arrow is the one at its place, and its witness nodes have these names in their order
+-- a node of a list stands for a declared term: its declared arrow is the one at its place, a hidden side has none,
+-- and its witness nodes have these names in their order
 pub data Stands (ns : List Node) (ds : Typing) (names : List ℕ) : ℕ → Declared → Type 0 where
   StandsIden : (i : ℕ) (a : Arrow) → slice_get ns i ≡ Some node.Iden → slice_get ds i ≡ Some (Some a) → Stands ns ds names i (Iden a)
   StandsUnit : (i : ℕ) (a : Arrow) → slice_get ns i ≡ Some node.UnitNode → slice_get ds i ≡ Some (Some a) → Stands ns ds names i (UnitTerm a)
@@ -63,20 +64,35 @@ pub data Stands (ns : List Node) (ds : Typing) (names : List ℕ) : ℕ → Decl
   StandsPair : (i j k : ℕ) (a : Arrow) (s t : Declared) → slice_get ns i ≡ Some (node.Pair j k) → slice_get ds i ≡ Some (Some a) →
       Stands ns ds names j s → Stands ns ds names k t → Stands ns ds names i (PairTerm a s t)
   StandsAssertL : (i j k : ℕ) (a : Arrow) (s : Declared) (h : List ℕ) → slice_get ns i ≡ Some (node.Case j k) → slice_get ds i ≡ Some (Some a) →
-      Stands ns ds names j s → slice_get ns k ≡ Some (node.Hidden h) → Stands ns ds names i (AssertL a s h)
+      Stands ns ds names j s → slice_get ns k ≡ Some (node.Hidden h) → slice_get ds k ≡ Some None → Stands ns ds names i (AssertL a s h)
   StandsAssertR : (i j k : ℕ) (a : Arrow) (h : List ℕ) (t : Declared) → slice_get ns i ≡ Some (node.Case j k) → slice_get ds i ≡ Some (Some a) →
-      slice_get ns j ≡ Some (node.Hidden h) → Stands ns ds names k t → Stands ns ds names i (AssertR a h t)
+      slice_get ns j ≡ Some (node.Hidden h) → slice_get ds j ≡ Some None → Stands ns ds names k t → Stands ns ds names i (AssertR a h t)
   StandsFail : (i : ℕ) (a : Arrow) (e : List ℕ) → slice_get ns i ≡ Some (node.Fail e) → slice_get ds i ≡ Some (Some a) → Stands ns ds names i (Fail a e)
   StandsWitness : (i number : ℕ) (a : Arrow) → slice_get ns i ≡ Some node.Witness → slice_get ds i ≡ Some (Some a) →
       slice_get names (witness_number ns i) ≡ Some number → Stands ns ds names i (Witness a number)
   StandsWord : (i k n : ℕ) (a : Arrow) → slice_get ns i ≡ Some (node.Word k n) → slice_get ds i ≡ Some (Some a) → Stands ns ds names i (Word a k n)
 
--- the list has the different subterms of the term, its root the term itself; with its witnesses each at one place, equal subterms hold none
+-- how many witness leaves the term has
+abbrev pub leaves : Declared → ℕ
+leaves (Witness a n) = 1
+leaves (Comp a s t) = leaves s + leaves t
+leaves (Case a s t) = leaves s + leaves t
+leaves (PairTerm a s t) = leaves s + leaves t
+leaves (Injl a t) = leaves t
+leaves (Injr a t) = leaves t
+leaves (Take a t) = leaves t
+leaves (Drop a t) = leaves t
+leaves (AssertL a s h) = leaves s
+leaves (AssertR a h t) = leaves t
+leaves _ = 0
+
+-- the list has the different subterms of the term, its root the term itself; each witness leaf has a node of its own, so equal subterms hold none
 pub record ListsSubterms (t : Declared) (ns : List Node) (ds : Typing) (names : List ℕ) : Type 0 where
   pub placed : IsPlaced ns
   pub whole : Stands ns ds names (length ns - 1) t
   pub reached : (i : ℕ) → i < length ns → IsReached ns i
   pub different : IsShared ns ds
+  pub alone : witness_number ns (length ns) ≡ leaves t
 
 -- the names at these numbers
 abbrev pub names_at : List ℕ → List ℕ → List ℕ
@@ -87,6 +103,7 @@ pub record IsCanon (t : Declared) (root : Arrow) (ms : List Node) (us : Typing) 
   pub list : List Node
   pub declared : Typing
   pub names : List ℕ
+  pub places : List ℕ
   pub subterms : ListsSubterms t list declared names
-  pub reordered : IsReordered list root ms us
+  pub reordered : IsReordered list root ms us places
   pub named : new_names ≡ names_at names (gathered_numbers list)

@@ -1,10 +1,10 @@
 -- The Bit Machine (Simplicity Technical Report, "Bit Machine" and "Executing Simplicity"; the counts of work are this project's own).
 use Rattle.std.specs.Prelude.{◌≡◌, ℕ, ◌+◌, ◌-◌, max, Bool, true, false, nat_le, List, [], ◌∷◌, ◌++◌, length, take, drop, Option, Some, None, slice_get}
-use Rattle.simplicity.specs.Types.{Kind, Sum, Product, Value, Inl, Inr, Pair, size, pad_left, pad_right, word_kind, word_value}
+use Rattle.simplicity.specs.Types.{Kind, Sum, Product, Value, Inl, Inr, Pair, IsOf, AreOf, size, pad_left, pad_right, word_kind, word_value}
 use Rattle.simplicity.specs.Cells.{Cell, Bit, cells, undefined}
-use Rattle.simplicity.specs.Nodes.{Node, witness_number}
+use Rattle.simplicity.specs.Nodes.{Node, IsPlaced, witness_number}
 use Rattle.simplicity.specs.Nodes as node
-use Rattle.simplicity.specs.Typing.{Typing, Arrow, target_at, root_arrow}
+use Rattle.simplicity.specs.Typing.{Typing, Arrow, IsTypingAt, target_at, root_arrow, witness_targets}
 
 -- a frame: its cells before the cursor, and those from the cursor on
 pub record Frame : Type 0 where
@@ -58,6 +58,13 @@ pub record Program : Type 0 where
   pub nodes : List Node
   pub typing : Typing
   pub witness : List Value
+
+-- what a run is given: a placed list with a typing at this arrow, a value of its type for each witness node, and a value of the source
+pub record IsInput (p : Program) (root : Arrow) (v : Value) : Type 0 where
+  pub placed : IsPlaced p.nodes
+  pub typed : IsTypingAt p.nodes root p.typing
+  pub witness : AreOf p.witness (witness_targets p.nodes p.typing)
+  pub input : IsOf v root.source
 
 -- how a value is written
 abbrev pub writing : Kind → Value → List Item
@@ -155,7 +162,7 @@ choose (Bit false ∷ cs) left right rest reads writes t = chosen left rest read
 choose (Bit true ∷ cs) left right rest reads writes t = chosen right rest reads writes t
 choose _ left right rest reads writes t = Stuck
 
--- one turn by the item in front: a node gives way to its row, which is no instruction, and an instruction is one step
+-- one turn by the item in front: a node gives way to its row, which is no step, and an instruction is one step; one that fails adds nothing to the totals
 abbrev pub turn_on : Program → List Item → List Frame → List Frame → Totals → Turn
 turn_on p [] reads writes t = Ends
 turn_on p (At i ∷ rest) reads writes t = Next (record { items = row_at p i ++ rest; reads = reads; writes = writes; totals = t })

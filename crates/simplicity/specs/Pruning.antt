@@ -2,9 +2,10 @@
 use Rattle.std.specs.Prelude.{◌≡◌, ℕ, ◌+◌, ◌-◌, ◌<◌, ◌↔◌, nat_eq, List, [], ◌∷◌, ◌++◌, length, map, Option, Some, None, slice_get}
 use Rattle.std.specs.List.{position_or_len}
 use Rattle.simplicity.specs.Types.{Value, UnitValue, One, shrink_all}
-use Rattle.simplicity.specs.Nodes.{Node, witness_number, Part, Tree, HiddenSide, parts, part_at}
+use Rattle.simplicity.specs.Nodes.{Node, IsShown, witness_number, Part, Tree, HiddenSide, parts, part_at}
 use Rattle.simplicity.specs.Nodes as node
 use Rattle.simplicity.specs.Order.{post_order}
+use Rattle.simplicity.specs.Places.{ArePlaces}
 use Rattle.simplicity.specs.Typing.{Typing, Arrow, arrow, IsLeast, witness_targets}
 use Rattle.simplicity.specs.Shared.{IsCanonicalUnder}
 use Rattle.simplicity.specs.Roots.{part_root}
@@ -48,10 +49,28 @@ cut_from ps later choices i (n ∷ ns) = cut_node ps later (choices i) n ∷ cut
 abbrev pub cut : (ℕ → Choice) → List Node → List Node
 cut choices ns = map (λ p. node.Hidden (part_root p)) (parts ns) ++ cut_from (parts ns) (length ns) choices 0 ns
 
--- the choices hide exactly those sides of cases that a run on the value visits on the other side alone
+-- a case stands at the index, and both its sides are shown
+pub record IsOpenAt (ns : List Node) (i : ℕ) : Type 0 where
+  pub left : ℕ
+  pub right : ℕ
+  pub here : slice_get ns i ≡ Some (node.Case left right)
+  pub left_shown : IsShown (slice_get ns left)
+  pub right_shown : IsShown (slice_get ns right)
+
+-- the choices hide sides of such cases alone
+abbrev pub HidesOpen : List Node → (ℕ → Choice) → Type 0
+HidesOpen ns choices = (i : ℕ) → (choices i ≡ Keep → ⊥) → IsOpenAt ns i
+
+-- a cut of the list, by any such choices
+pub record IsCut (ns after : List Node) : Type 0 where
+  pub choices : ℕ → Choice
+  pub hides : HidesOpen ns choices
+  pub is_cut : after ≡ cut choices ns
+
+-- the choices hide exactly those sides of such cases that a run on the value doesn't visit, where it visits the other side
 pub record HidesUnvisited (ns : List Node) (w : List Value) (v : Value) (choices : ℕ → Choice) : Type 0 where
-  pub left : (i : ℕ) → choices i ≡ HideLeft ↔ (IsVisitedRight ns w v i × (IsVisitedLeft ns w v i → ⊥))
-  pub right : (i : ℕ) → choices i ≡ HideRight ↔ (IsVisitedLeft ns w v i × (IsVisitedRight ns w v i → ⊥))
+  pub left : (i : ℕ) → choices i ≡ HideLeft ↔ (IsOpenAt ns i × IsVisitedRight ns w v i × (IsVisitedLeft ns w v i → ⊥))
+  pub right : (i : ℕ) → choices i ≡ HideRight ↔ (IsOpenAt ns i × IsVisitedLeft ns w v i × (IsVisitedRight ns w v i → ⊥))
 
 -- the list with each case that is visited on one side alone turned into an assertion
 pub record IsHide (ns : List Node) (w : List Value) (v : Value) (hidden : List Node) : Type 0 where
@@ -100,17 +119,20 @@ pub record IsMerged (ns : List Node) (ts : Typing) (ms : List Node) (us : Typing
   pub arrows : (i : ℕ) → i < length ns → slice_get us (place i) ≡ slice_get ts i
   pub apart : (i j : ℕ) → slice_get ns i ≡ Some node.Witness → slice_get ns j ≡ Some node.Witness → place i ≡ place j → i ≡ j
 
--- the list reordered at an arrow: what the root reaches, under its least typing, with equal nodes merged, in its order
-pub record IsReordered (ns : List Node) (root : Arrow) (ms : List Node) (us : Typing) : Type 0 where
+-- the list reordered at an arrow: what the root reaches, under its least typing, with equal nodes merged, in its order;
+-- and for each node that is left the least old place that became it
+pub record IsReordered (ns : List Node) (root : Arrow) (ms : List Node) (us : Typing) (places : List ℕ) : Type 0 where
   pub typing : Typing
   pub place : ℕ → ℕ
   pub least : IsLeast (gathered ns) root typing
   pub merged : IsMerged (gathered ns) typing ms us place
   pub canonical : IsCanonicalUnder ms root us
+  pub from : ArePlaces ns ms place places
 
 -- the list and the witness values pruned by a run on the empty tuple: hidden, reordered, and each value that is left shrunk to its node's new target
 pub record IsPruned (ns : List Node) (w : List Value) (ms : List Node) (us : Typing) (left : List Value) : Type 0 where
   pub hidden : List Node
+  pub places : List ℕ
   pub hide : IsHide ns w UnitValue hidden
-  pub reordered : IsReordered hidden (arrow One One) ms us
+  pub reordered : IsReordered hidden (arrow One One) ms us places
   pub values : left ≡ shrink_all (values_at w (gathered_numbers hidden)) (witness_targets ms us)

@@ -1,6 +1,6 @@
 -- Sharing and the canonical list (Simplicity Technical Report, "Serialization", maximal sharing; that witness nodes are exempt is this project's own).
 use Rattle.std.specs.Prelude.{◌≡◌, ℕ, ◌<◌, List, Some, slice_get}
-use Rattle.simplicity.specs.Nodes.{Node}
+use Rattle.simplicity.specs.Nodes.{Node, IsPlaced}
 use Rattle.simplicity.specs.Nodes as node
 use Rattle.simplicity.specs.Order.{IsOrdered}
 use Rattle.simplicity.specs.Typing.{Typing, Arrow, IsLeast}
@@ -17,8 +17,9 @@ pub record AreSame (ns : List Node) (ts : Typing) (i j : ℕ) : Type 0 where
 abbrev pub IsShared : List Node → Typing → Type 0
 IsShared ns ts = (i j : ℕ) → i < j → AreSame ns ts i j → ⊥
 
--- ordered, and shared under the least typing with the root arrow
+-- children before parents, ordered, and shared under the least typing with the root arrow
 pub record IsCanonicalUnder (ns : List Node) (root : Arrow) (ts : Typing) : Type 0 where
+  pub placed : IsPlaced ns
   pub ordered : IsOrdered ns
   pub least : IsLeast ns root ts
   pub shared : IsShared ns ts

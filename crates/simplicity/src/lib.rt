@@ -2,6 +2,7 @@
 #![tactic(auto)]
 
 ghost use Rattle.simplicity.specs.Laws.{CellsFill, CodeDetermines, BelowOrders, ShrinkKeeps, MeaningKeeps, NodesUnfold, TreesAreTyped, NaturalsAgree, SpellingDetermines, StreamDetermines, LeastIsOne, AcceptedAsOne, WordsAreTerms, OrderPlaces};
+ghost use Rattle.simplicity.specs.TermLaws.{TuplesHalve, PlacesAreTyped, MadeIsTyped, FlowedIsTyped, WordsAreDigits, LoopsJoin};
 
 /// A value of a type has as many cells as the type's size.
 pub fn cells_fill_law()
@@ -71,4 +72,34 @@ pub fn words_are_terms_law()
 /// Each node of an ordered list is in its place.
 pub fn order_places_law()
     ensures { OrderPlaces }
+{}
+
+/// More than one value or type are the tuple of the first half beside that of the rest.
+pub fn tuples_halve_law()
+    ensures { TuplesHalve }
+{}
+
+/// A term that is typed at every place has its arrow by the typing table on trees.
+pub fn places_are_typed_law()
+    ensures { PlacesAreTyped }
+{}
+
+/// What is made of terms that are typed at every place is typed at every place, where its parts go together.
+pub fn made_is_typed_law()
+    ensures { MadeIsTyped }
+{}
+
+/// A term with its arrows from a source is the term, and is typed if it can start there.
+pub fn flowed_is_typed_law()
+    ensures { FlowedIsTyped }
+{}
+
+/// Digits are the numbers of their width, and the values of its type.
+pub fn words_are_digits_law()
+    ensures { WordsAreDigits }
+{}
+
+/// Folds and runs of turns go one after the other, and a loop with a counter is a run.
+pub fn loops_join_law()
+    ensures { LoopsJoin }
 {}

@@ -15,6 +15,7 @@ use Rattle.hl_syntax.specs.declared.token.Span.{Span}
 use Rattle.hl_syntax.specs.declared.tree.TypeText.{TypeText}
 use Rattle.hl_syntax.specs.declared.tree.TypeForm.TheOpen.{TypeForm-F}
 use Rattle.hl_syntax.specs.declared.tree.TypeForm.TheFolds.{fold-TypeText}
+use Rattle.simplicity.specs.Limits.{most_weight}
 use Rattle.simplicity.specs.Types.{weight}
 use Rattle.simplicityhl.specs.Kinds.{form, is_count, is_bound}
 use Rattle.simplicityhl.specs.Tokens.{decimal_value}
@@ -68,7 +69,7 @@ bounded mark bound = if is_bound bound then Ok bound else Err (breaks_rule K10 m
 
 -- a type that isn't too heavy
 abbrev pub light : Span → HlType → Walked
-light span kind = if nat_lt 4194304 (weight (form kind)) then Err (breaks_limit L5 span) else Ok kind
+light span kind = if nat_lt most_weight (weight (form kind)) then Err (breaks_limit L5 span) else Ok kind
 
 -- the walk of a type's parts, its span given
 abbrev pub walk_step : List TypedName → TypeForm-F (Span → Walked) Walked → Span → Walked

@@ -82,7 +82,8 @@ impl<'a> Cursor<'a> {
 
     // The next token, which is taken.
     pub(crate) fn pop(&mut self) -> Option<Token<'a>>
-        ensures { MatchOption result (self.old ≡ []) (λ token. self.old ≡ (token.bytes.now, token.place) ∷ self.new) }
+        ensures { MatchOption result (self.old ≡ []) (λ token.
+            self.old ≡ (token.bytes.now, token.place) ∷ self.new) }
     {
         let (_, text) = self.rest.split_at(blanks(self.rest));
         let place = self.at + (self.rest.len() - text.len());

@@ -13,8 +13,6 @@ mod cursor;
 mod names;
 mod read;
 mod small;
-#[cfg(test)]
-mod tests;
 
 pub use names::is_name;
 pub use read::{one_function, read_small};

@@ -122,7 +122,8 @@ fn signature(
     cursor: &mut Cursor<'_>,
     asked: &[u8],
 ) -> Result<(Vec<Name>, Shape), SmallRefusal>
-    ensures { Gives (λ x. (x.0.items, shape_of x.1)) (signature_read asked.now cursor.old) result cursor.new }
+    ensures { Gives (λ x. (x.0.items, shape_of x.1))
+        (signature_read asked.now cursor.old) result cursor.new }
 {
     cursor.expect(b"fn")?;
     cursor.expect(asked)?;
@@ -162,7 +163,8 @@ fn function(
 pub fn read_small(alloc: Global, text: &[u8], asked: &[u8]) -> Result<SmallFunction, SmallRefusal>
     ensures small { IfOk result (λ f. IsSmall text.now asked.now (small_of f)) }
     ensures places { IfOk result (λ f. NamesStandIn text.now (body_of f.body)) }
-    ensures not_small { IsErrOf result SmallRefusal.NotSmall → (f : Small) → ¬ IsSmall text.now asked.now f }
+    ensures not_small { IsErrOf result SmallRefusal.NotSmall →
+        (f : Small) → ¬ IsSmall text.now asked.now f }
 {
     if !names_function(asked) {
         return Err(SmallRefusal::NotSmall);

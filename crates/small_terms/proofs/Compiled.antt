@@ -19,7 +19,7 @@ use Rattle.small_terms.proofs.Sized.{makes_count, makes_fits, makes_target}
 use Rattle.small_terms.proofs.Typed.{IsTypedOn, none_typed, emits_typed}
 use Rattle.small_terms.proofs.Grown.{emits_within, emits_below}
 use Rattle.small_terms.proofs.Lists.{upto}
-use Rattle.small_terms.proofs.Listed.{shown_node}
+use Rattle.small_terms.proofs.Listed.{shown_node, placed}
 use Rattle.small_terms.proofs.Ordered.{IsLast, emits_last, emits_order}
 use Rattle.small_terms.proofs.Planned.{planned, made_value, made_few, node_count}
 use Rattle.small_terms.proofs.Trees.{emits_tree, length-entry_nodes}
@@ -87,6 +87,7 @@ made_canonical f new at m =
     let typing : IsTypingAt (entry_nodes new) (arrow_of f) t.typing = record { typed = t.by.typed; rooted = rw last t.here } in (
       t.typing,
       record {
+        placed = placed new (emits_below none_below m.emits);
         ordered = rw last (emits_order none_below m.emits (entry_nodes new) [] (sym (append-nil (entry_nodes new))) (length (entry_nodes new)) (omega arith) ∙ ap upto (sym long));
         least = record { typing = typing; least = λ us other. rw (made_alone f new at m us t.typing other typing) (typing_below_self t.typing) };
         shared = shared new t.typing (emits_distinct none_distinct m.emits) t.by;

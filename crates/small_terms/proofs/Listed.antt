@@ -1,12 +1,12 @@
 -- Entries whose children stand before them make a placed list.
-use Rattle.std.proofs.Common.{◌≡◌, ℕ, zero, suc, ◌<◌, ◌≤◌, List, [], ◌∷◌, length, take, get_or, slice_get, Some, arith}
+use Rattle.std.proofs.Common.{◌≡◌, ℕ, zero, suc, ◌<◌, ◌≤◌, List, [], ◌∷◌, ◌++◌, length, take, get_or, slice_get, Some, arith, refl, ap, sym, subst, append_assoc}
 use Rattle.std.proofs.lemmas.Option.{slice_get-get_or}
-use Rattle.simplicity.specs.Nodes.{AreUnder, Node, IsShown, CanFollow, children}
+use Rattle.simplicity.specs.Nodes.{AreUnder, Node, IsShown, CanFollow, PlacedAfter, IsPlaced, children}
 use Rattle.small_terms.specs.Kinds.{node_of}
 use Rattle.small_terms.specs.declared.entries.SmallNode.TheVariants as code
 use Rattle.small_terms.specs.declared.entries.SmallNode.{SmallNode}
 use Rattle.small_terms.specs.declared.entries.Entry.{Entry}
-use Rattle.small_terms.specs.Entries.{AreBelow, entry_nodes}
+use Rattle.small_terms.specs.Entries.{AreBelow, entry_node, entry_nodes}
 
 pub shown_node : (n : SmallNode) → IsShown (Some (node_of n))
 shown_node code.Iden = tt
@@ -29,3 +29,28 @@ follows es at (code.Pair i j) within below = (shown es at i below.0 within, show
 -- the node of an entry may follow those before it
 pub entry_follows : (es : List Entry) (at : ℕ) (d : Entry) (nodes : List Node) → AreBelow es → at < length es → nodes ≡ entry_nodes (take at es) → CanFollow nodes (node_of (get_or es at d).node)
 entry_follows es at d nodes below within is = rw is (follows es at (get_or es at d).node (omega arith) (below.below at (get_or es at d) (slice_get-get_or es at d within)))
+
+take_whole : (es : List Entry) → take (length es) es ≡ es
+take_whole [] = refl
+take_whole (e ∷ es) = ap (λ (l : List Entry). e ∷ l) (take_whole es)
+
+get_next : (before : List Entry) (e : Entry) (es : List Entry) → slice_get (before ++ e ∷ es) (length before) ≡ Some e
+get_next [] e es = refl
+get_next (b ∷ before) e es = get_next before e es
+
+nodes_more : (before : List Entry) (e : Entry) → entry_nodes (before ++ e ∷ []) ≡ entry_nodes before ++ entry_node e ∷ []
+nodes_more [] e = refl
+nodes_more (b ∷ before) e = ap (λ (l : List Node). entry_node b ∷ l) (nodes_more before e)
+
+placed_after : (before es : List Entry) → AreBelow (before ++ es) → PlacedAfter (entry_nodes before) (entry_nodes es)
+placed_after before [] below = tt
+placed_after before (e ∷ es) below =
+    let under = below.below (length before) e (get_next before e es) in
+    let more : (before ++ e ∷ []) ++ es ≡ before ++ (e ∷ es) = append_assoc before (e ∷ []) es in (
+      subst (λ (l : List Entry). CanFollow (entry_nodes l) (entry_node e)) (take_whole before) (follows before (length before) e.node (omega arith) under),
+      subst (λ (l : List Node). PlacedAfter l (entry_nodes es)) (nodes_more before e) (placed_after (before ++ e ∷ []) es (subst AreBelow (sym more) below)),
+    )
+
+-- the nodes of entries whose children stand before them are a placed list
+pub placed : (es : List Entry) → AreBelow es → IsPlaced (entry_nodes es)
+placed es below = placed_after [] es below

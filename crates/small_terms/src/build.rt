@@ -39,8 +39,10 @@ pub fn build_small(alloc: Global, function: &SmallFunction) -> Result<NodeList, 
     requires { IsModest (small_of function.now) }
     ensures compiled { IfOk result (λ nodes. IsCompiled nodes (small_of function.now)) }
     ensures few { IfOk result (λ nodes. length nodes < 2 ^ 32) }
-    ensures known { IfOk result (λ _. first_unknown (small_of function.now).parameters (small_of function.now).body ≡ None) }
-    ensures unknown { IfErr result (IsUnknown (small_of function.now).parameters (small_of function.now).body) }
+    ensures known { IfOk result (λ _.
+        first_unknown (small_of function.now).parameters (small_of function.now).body ≡ None) }
+    ensures unknown { IfErr result
+        (IsUnknown (small_of function.now).parameters (small_of function.now).body) }
 {
     let mut entries = Vec::new(alloc);
     emit_body(&mut entries, function.parameters.as_slice(), &function.body)?;
@@ -53,7 +55,9 @@ fn emit_body(
     parameters: &[Name],
     body: &Body,
 ) -> Result<usize, BuildRefusal>
-    ensures emitted { IfOk result (λ at. (plan : Plan) → Makes parameters.now (body_of body.now) plan → Emits entries.old.items plan entries.new.items at) }
+    ensures emitted { IfOk result (λ at. (plan : Plan) →
+        Makes parameters.now (body_of body.now) plan →
+        Emits entries.old.items plan entries.new.items at) }
     ensures known { IfOk result (λ _. first_unknown parameters.now (body_of body.now) ≡ None) }
     ensures unknown { IfErr result (IsUnknown parameters.now (body_of body.now)) }
 {
@@ -81,7 +85,8 @@ fn emit_body(
 /// Adds the nodes that lead to the byte at a place among so many.
 fn emit_path(entries: &mut Vec<Entry>, count: usize, place: usize) -> Result<usize, AllocError>
     requires { place < count }
-    ensures { IfOk result (λ at. (plan : Plan) → Picks count place plan → Emits entries.old.items plan entries.new.items at) }
+    ensures { IfOk result (λ at. (plan : Plan) →
+        Picks count place plan → Emits entries.old.items plan entries.new.items at) }
 {
     if count == 1 {
         let node = SmallNode::Iden;
@@ -101,7 +106,8 @@ fn emit_path(entries: &mut Vec<Entry>, count: usize, place: usize) -> Result<usi
 /// The place of the first parameter of a name.
 fn place_of(parameters: &[Name], name: &[u8]) -> Option<usize>
     ensures found { IfSome result (λ at. slice_get parameters.now at ≡ Some name.now) }
-    ensures before { IfSome result (λ at. (i : ℕ) → i < at → ¬ (slice_get parameters.now i ≡ Some name.now)) }
+    ensures before { IfSome result (λ at.
+        (i : ℕ) → i < at → ¬ (slice_get parameters.now i ≡ Some name.now)) }
     ensures none { IfNone result ((i : ℕ) → ¬ (slice_get parameters.now i ≡ Some name.now)) }
 {
     for (place, parameter) in parameters.iter().enumerate() {
@@ -122,45 +128,4 @@ fn listed(alloc: Global, entries: &[Entry]) -> Result<NodeList, AllocError>
         nodes.push(entry.node.list_node())?;
     }
     Ok(nodes)
-}
-
-#[cfg(test)]
-mod tests {
-    use super::*;
-    use small_source::read_small;
-    use std::test::Fail;
-    use term_core::ListNode;
-
-    const THREE: &[u8] = b"fn f(x: u8, y: u8, z: u8) -> (u8, (u8, u8)) { (x, (y, z)) }";
-
-    #[test]
-    fn names_three_parameters(rt: HostRuntime) -> Result<(), Fail> {
-        let function = read_small(rt.alloc(), THREE, b"f")?;
-        let nodes = build_small(rt.alloc(), &function)?;
-        let want = [
-            ListNode::Iden,
-            ListNode::Take(0),
-            ListNode::Take(0),
-            ListNode::Drop(2),
-            ListNode::Drop(0),
-            ListNode::Drop(4),
-            ListNode::Pair(3, 5),
-            ListNode::Pair(1, 6),
-        ];
-        assert_eq!(rt; nodes.as_slice(), want.as_slice());
-        Ok(())
-    }
-
-    #[test]
-    fn refuses_the_first_unknown_name(rt: HostRuntime) -> Result<(), Fail> {
-        let text = b"fn f(x: u8) -> (u8, (u8, u8)) { (x, (one, two)) }";
-        let function = read_small(rt.alloc(), text, b"f")?;
-        let answer = build_small(rt.alloc(), &function).map(|nodes| nodes.len());
-        let want = BuildRefusal::UnknownName {
-            start: 37,
-            length: 3,
-        };
-        assert_eq!(rt; answer, Err(want));
-        Ok(())
-    }
 }

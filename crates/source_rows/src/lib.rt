@@ -1,23 +1,18 @@
-//! Rows of the source language, as tests over its layers: sources and what becomes of them. A crate
-//! with tests is proved a second time with them, so the rows of the dear layers stand here. It has
-//! no calls.
+//! Rows of the source language, as tests over its upper layers: values, data files, rules and limits, and what sources mean.
+//! A crate with tests is proved a second time with them, so the rows of the dear layers stand here. It has no calls.
 #![tactic(auto)]
 
 #[cfg(test)]
-mod dead_places;
-#[cfg(test)]
 mod evaluations;
+#[cfg(test)]
+mod files;
 #[cfg(test)]
 mod limits;
 #[cfg(test)]
 mod meanings;
 #[cfg(test)]
-mod refusals;
-#[cfg(test)]
 mod rules;
 #[cfg(test)]
-mod trees;
-#[cfg(test)]
-mod types;
+mod typed;
 #[cfg(test)]
 mod values;

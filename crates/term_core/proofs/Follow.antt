@@ -4,12 +4,13 @@ use Rattle.simplicity.specs.Types.{Kind, One, Sum, Product, word_kind}
 use Rattle.simplicity.specs.Typing.{arrow}
 use Rattle.simplicity.specs.Canon.{Declared}
 use Rattle.simplicity.specs.Widths.{level_of}
+use Rattle.simplicity.specs.Arrows.{declared_arrow, MeetsRow}
 use Rattle.jets.specs.Unsigned.{Unsigned}
 use Rattle.type_table.specs.Kinds.{Means}
 use Rattle.term_core.specs.declared.table_node.Node.TheVariants as code
 use Rattle.term_core.specs.declared.table_node.TermRow.{TermRow}
-use Rattle.term_core.specs.Terms.{term_of, terms, declared_arrow, MeetsRow, MayFollow, MeansTerm}
-use Rattle.term_core.specs.Terms as meets
+use Rattle.term_core.specs.Terms.{term_of, terms, MayFollow, MeansTerm}
+use Rattle.simplicity.specs.Arrows as meets
 use Rattle.term_core.proofs.Growth.{length-terms}
 
 module _ (kinds : List Kind) (rows : List TermRow) (source target : ℕ) where

@@ -4,10 +4,11 @@ use Rattle.simplicity.specs.Types.{Kind}
 use Rattle.simplicity.specs.Nodes.{AreUnder}
 use Rattle.simplicity.specs.Typing.{Arrow}
 use Rattle.simplicity.specs.Canon.{Declared}
+use Rattle.simplicity.specs.Arrows.{MeetsRow, IsTypedTerm}
 use Rattle.term_core.specs.declared.table_node.Node.{Node}
 use Rattle.term_core.specs.declared.table_node.Node.TheVariants as code
 use Rattle.term_core.specs.declared.table_node.TermRow.{TermRow}
-use Rattle.term_core.specs.Terms.{child_ids, term_of, node_term, row_term, terms_after, MeetsRow, IsTypedTerm, FollowFrom}
+use Rattle.term_core.specs.Terms.{child_ids, term_of, node_term, row_term, terms_after, FollowFrom}
 use Rattle.term_core.specs.Laws.{TermsAreTyped}
 use Rattle.term_core.proofs.Growth.{length-terms}
 

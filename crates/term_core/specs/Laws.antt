@@ -1,9 +1,10 @@
 -- Laws of tables of terms that every layer above may cite.
 use Rattle.std.specs.Prelude.{◌≡◌, ℕ, ◌<◌, List, length}
 use Rattle.simplicity.specs.Types.{Kind}
+use Rattle.simplicity.specs.Arrows.{IsTypedTerm}
 use Rattle.type_table.specs.Kinds.{IsGrown}
 use Rattle.term_core.specs.declared.table_node.TermRow.{TermRow}
-use Rattle.term_core.specs.Terms.{term_at, IsTypedTerm, StandsOver, KeepsRows}
+use Rattle.term_core.specs.Terms.{term_at, StandsOver, KeepsRows}
 
 -- an id means the same once the table and its types have grown
 abbrev pub TermsStay : Type 0

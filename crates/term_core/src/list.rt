@@ -105,23 +105,3 @@ fn bytes_fit(bytes: &[u8])
 {
     let _count = bytes.len();
 }
-
-#[cfg(test)]
-mod tests {
-    use super::*;
-    use std::test::Fail;
-
-    #[test]
-    fn keeps_its_nodes(rt: HostRuntime) -> Result<(), Fail> {
-        let mut list = NodeList::new(rt.alloc());
-        list.push(ListNode::Iden)?;
-        list.push(ListNode::Drop(0))?;
-        assert_eq!(rt; list.len(), 2);
-        assert_eq!(rt; *list.get(1), ListNode::Drop(0));
-        assert_eq!(rt;
-            list.as_slice(),
-            [ListNode::Iden, ListNode::Drop(0)].as_slice()
-        );
-        Ok(())
-    }
-}

@@ -5,7 +5,7 @@ use word_math::Word;
 /// A node of a list, which names its children by their places.
 ///
 /// A hidden node carries the 32 bytes of a root, a failure 64 bytes.
-#[derive(Clone, Copy, Debug, PartialEq, Eq)]
+#[derive(Clone, Copy, Debug, PartialEq, Eq, Hash)]
 pub enum ListNode {
     Iden,
     Unit,

@@ -84,22 +84,3 @@ impl TermTable {
         self.rows.len()
     }
 }
-
-#[cfg(test)]
-mod tests {
-    use super::*;
-    use std::test::Fail;
-
-    #[test]
-    fn numbers_nodes(rt: HostRuntime) -> Result<(), Fail> {
-        let mut types = TypeTable::new(rt.alloc());
-        let unit = types.unit()?;
-        let mut table = TermTable::new(rt.alloc());
-        let first = table.add(Node::Iden, unit, unit, &types)?;
-        let second = table.add(Node::Comp(first, first), unit, unit, &types)?;
-        assert_eq!(rt; table.len(), 2);
-        assert_eq!(rt; table.node(second), Node::Comp(first, first));
-        assert_eq!(rt; table.arrow(first), (unit, unit));
-        Ok(())
-    }
-}

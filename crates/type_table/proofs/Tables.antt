@@ -6,7 +6,8 @@ use Rattle.std.proofs.Math.Seq.{get_or-append_seam}
 use Rattle.simplicity.specs.Types.{Kind, One, size, weight}
 use Rattle.type_table.specs.declared.shape.Shape.{Shape}
 use Rattle.type_table.specs.declared.shape.Shape.TheVariants as shape
-use Rattle.type_table.specs.Kinds.{Means, kind_at, kind_in, IsGrown, IsDistinct, AreBelow, capped}
+use Rattle.type_table.specs.Kinds.{Means, kind_at, kind_in, IsGrown, IsDistinct, AreBelow}
+use Rattle.simplicity.specs.Limits.{capped}
 use Rattle.std.proofs.lemmas.Bool.{cases_lt}
 use Rattle.type_table.specs.Rows.{Row, kinds_after, kinds_of, IsRow, IsTable}
 

@@ -1,5 +1,5 @@
 -- A table of types, as its callers see it: the list of the types that its ids mean.
-use Rattle.std.specs.Prelude.{◌≡◌, ℕ, ◌-◌, ◌^◌, ◌<◌, min, List, ◌++◌, length}
+use Rattle.std.specs.Prelude.{◌≡◌, ℕ, ◌<◌, List, ◌++◌, length}
 use Rattle.std.specs.List.{slice_index_or}
 use Rattle.simplicity.specs.Types.{Kind, One, Sum, Product}
 use Rattle.type_table.specs.declared.shape.Shape.{Shape}
@@ -39,7 +39,3 @@ AreBelow bound (shape.Product left right) = (left < bound) × (right < bound)
 pub record HasShape (kinds : List Kind) (id : ℕ) (shape : Shape) : Type 0 where
   pub parts : AreBelow id shape
   pub is : kind_at kinds id ≡ kind_in kinds shape
-
--- the number, or 2 ^ 64 - 1 from there on
-abbrev pub capped : ℕ → ℕ
-capped n = min n (2 ^ 64 - 1)

@@ -1,9 +1,10 @@
 -- The rows of a table, and the types that they mean.
 use Rattle.std.specs.Prelude.{◌≡◌, ℕ, List, [], ◌∷◌, ◌++◌, length, slice_get, Some}
 use Rattle.simplicity.specs.Types.{Kind, size, weight}
+use Rattle.simplicity.specs.Limits.{capped}
 use Rattle.type_table.specs.declared.shape.Shape.{Shape}
 use Rattle.type_table.specs.declared.table.Measures.{Measures}
-use Rattle.type_table.specs.Kinds.{kind_at, kind_in, HasShape, IsDistinct, capped}
+use Rattle.type_table.specs.Kinds.{kind_at, kind_in, HasShape, IsDistinct}
 
 -- a shape, and the numbers of its type
 abbrev pub Row : Type 0

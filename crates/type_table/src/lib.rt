@@ -3,9 +3,7 @@
 
 mod shape;
 mod table;
-#[cfg(test)]
-mod tests;
 mod tree;
 
 pub use shape::{Shape, TypeId};
-pub use table::TypeTable;
+pub use table::{MOST_WEIGHT, TypeTable};

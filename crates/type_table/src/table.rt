@@ -1,13 +1,17 @@
 ghost use Rattle.std.specs.Prelude.{◌≡◌, ℕ, ◌+◌, ◌-◌, ◌^◌, ◌<◌, min, [], length, IfOk};
+ghost use Rattle.simplicity.specs.Limits.{capped};
 ghost use Rattle.simplicity.specs.Types.{One, Sum, Product, size, weight};
 ghost use Rattle.simplicity.specs.Widths.{IsWidth, word_of_width};
-ghost use Rattle.type_table.specs.Kinds.{Means, kind_at, kind_in, IsGrown, IsDistinct, AreBelow, HasShape, capped};
+ghost use Rattle.type_table.specs.Kinds.{Means, kind_at, kind_in, IsGrown, IsDistinct, AreBelow, HasShape};
 ghost use Rattle.type_table.specs.Rows.{IsRow};
 
 use crate::shape::{Shape, TypeId};
 use indexmap::IndexMap;
 use std::alloc::{AllocError, Global};
 use std::marker::Model;
+
+/// The greatest weight that a type of a program may have: the nodes of its tree (L5).
+pub const MOST_WEIGHT: u64 = 4_194_304;
 
 /// How many cells a value of a type takes and how many nodes the type's tree has.
 /// Both numbers are 2^64 - 1 where they would be more.
@@ -64,7 +68,8 @@ impl TypeTable {
     pub fn sum(&mut self, left: TypeId, right: TypeId) -> Result<TypeId, AllocError>
         requires left { left < length self.old }
         requires right { right < length self.old }
-        ensures ok { IfOk result (λ id. Means self.new id (Sum (kind_at self.old left) (kind_at self.old right))) }
+        ensures ok { IfOk result (λ id.
+            Means self.new id (Sum (kind_at self.old left) (kind_at self.old right))) }
         ensures grown { IsGrown self.old self.new }
         ensures distinct { IsDistinct self.new }
     {
@@ -75,7 +80,8 @@ impl TypeTable {
     pub fn product(&mut self, left: TypeId, right: TypeId) -> Result<TypeId, AllocError>
         requires left { left < length self.old }
         requires right { right < length self.old }
-        ensures ok { IfOk result (λ id. Means self.new id (Product (kind_at self.old left) (kind_at self.old right))) }
+        ensures ok { IfOk result (λ id.
+            Means self.new id (Product (kind_at self.old left) (kind_at self.old right))) }
         ensures grown { IsGrown self.old self.new }
         ensures distinct { IsDistinct self.new }
     {

@@ -1,5 +1,6 @@
 ghost use Rattle.std.specs.Prelude.{◌≡◌, [], ◌∷◌, ◌++◌, ◌+◌, ◌*◌, ◌<◌, ◌≤◌, length, Some, IfOk, IsSome};
 ghost use Rattle.core_data.specs.Data.{kind_of};
+ghost use Rattle.simplicity.specs.Limits.{most_weight};
 ghost use Rattle.simplicity.specs.Types.{weight};
 ghost use Rattle.type_table.specs.Kinds.{kind_at};
 ghost use Rattle.type_table.specs.Steps.{stack_of, after_step, after_steps, load, step_load};
@@ -25,7 +26,7 @@ impl TypeTable {
     /// The tree of a type. The walk keeps a list of what is left to do, so a deep tree takes no stack.
     pub fn tree(&self, alloc: Global, id: TypeId) -> Result<CoreType, AllocError>
         requires there { id < length self.now }
-        requires light { weight (kind_at self.now id) ≤ 4_194_304 }
+        requires light { weight (kind_at self.now id) ≤ most_weight }
         ensures { IfOk result (λ tree. kind_of tree ≡ kind_at self.now id) }
     {
         let mut steps = Vec::new(alloc);
@@ -49,8 +50,12 @@ impl TypeTable {
         trees: &mut Vec<CoreType>,
     ) -> Result<(), AllocError>
         requires { IsSome (after_step self.now step (Some (stack_of trees.old.items))) }
-        ensures after { IfOk result (λ _. after_steps self.now steps.new.items (Some (stack_of trees.new.items)) ≡ after_steps self.now steps.old.items (after_step self.now step (Some (stack_of trees.old.items)))) }
-        ensures less { IfOk result (λ _. load self.now steps.new.items < step_load self.now step + load self.now steps.old.items) }
+        ensures after { IfOk result (λ _.
+            after_steps self.now steps.new.items (Some (stack_of trees.new.items))
+            ≡ after_steps self.now steps.old.items
+            (after_step self.now step (Some (stack_of trees.old.items)))) }
+        ensures less { IfOk result (λ _.
+            load self.now steps.new.items < step_load self.now step + load self.now steps.old.items) }
     {
         match step {
             Step::Make(id) => self.make(id, steps, trees)?,
@@ -78,8 +83,13 @@ impl TypeTable {
         trees: &mut Vec<CoreType>,
     ) -> Result<(), AllocError>
         requires { id < length self.now }
-        ensures after { IfOk result (λ _. after_steps self.now steps.new.items (Some (stack_of trees.new.items)) ≡ after_steps self.now steps.old.items (Some (kind_at self.now id ∷ stack_of trees.old.items))) }
-        ensures less { IfOk result (λ _. load self.now steps.new.items < 2 * weight (kind_at self.now id) + load self.now steps.old.items) }
+        ensures after { IfOk result (λ _.
+            after_steps self.now steps.new.items (Some (stack_of trees.new.items))
+            ≡ after_steps self.now steps.old.items
+            (Some (kind_at self.now id ∷ stack_of trees.old.items))) }
+        ensures less { IfOk result (λ _.
+            load self.now steps.new.items
+            < 2 * weight (kind_at self.now id) + load self.now steps.old.items) }
     {
         match self.shape(id) {
             Shape::One => trees.push(CoreType::One)?,
@@ -92,7 +102,8 @@ impl TypeTable {
 
 /// Leaves the steps that make two trees and join them.
 fn plan(steps: &mut Vec<Step>, left: TypeId, right: TypeId, join: Step) -> Result<(), AllocError>
-    ensures { IfOk result (λ _. steps.new.items ≡ steps.old.items ++ join ∷ Make right ∷ Make left ∷ []) }
+    ensures { IfOk result (λ _.
+        steps.new.items ≡ steps.old.items ++ join ∷ Make right ∷ Make left ∷ []) }
 {
     steps.push(join)?;
     steps.push(Step::Make(right))?;

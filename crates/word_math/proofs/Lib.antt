@@ -1,5 +1,4 @@
 pub mod Fits
 pub mod Moved
 pub mod Listed
-pub mod Called
 pub mod Halved

@@ -2,5 +2,4 @@ pub mod Halves
 pub mod Op
 pub mod Answer
 pub mod Widths
-pub mod Call
 pub mod Values

@@ -1,8 +1,12 @@
 -- The widths of words that the code keeps in one number of 128 bits, with room for twice as many.
 use Rattle.std.specs.Prelude.{ℕ, ◌*◌, ◌<◌, ◌≤◌, IsTrue}
-use Rattle.jets.specs.Unsigned.{is_width}
+use Rattle.jets.specs.Unsigned.{Unsigned, is_width}
 use Rattle.jets.specs.Jet as jet
 use Rattle.jets.specs.Jet.{Jet}
+
+-- a number with its width
+abbrev pub unsigned : ℕ → ℕ → Unsigned
+unsigned width number = record { width = width; number = number }
 
 -- a width of words from 1 to 64
 pub record IsNarrow (n : ℕ) : Type 0 where

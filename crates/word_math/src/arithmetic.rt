@@ -6,7 +6,7 @@ ghost use Rattle.jets.specs.Jet as jet;
 ghost use Rattle.jets.specs.Jet.{amount, width_of};
 ghost use Rattle.jets.specs.Formula.{outcome, bit, shifted_left, shifted_right, rotated};
 ghost use Rattle.word_math.specs.Answer.{results_of, widths_of, numbers_of};
-ghost use Rattle.word_math.specs.Widths.{IsNarrow};
+ghost use Rattle.word_math.specs.Widths.{IsNarrow, unsigned};
 
 use crate::answer::JetAnswer;
 use crate::arguments::{one, three, two};
@@ -16,7 +16,7 @@ use crate::word::Word;
 fn carried(n: u16, sum: u128) -> JetAnswer
     requires width { IsNarrow n }
     requires fits { sum < 2 * 2 ^ n }
-    ensures { results_of result ≡ Some (record { width = 1; number = sum / 2 ^ n } ∷ record { width = n; number = sum % 2 ^ n } ∷ []) }
+    ensures { results_of result ≡ Some (unsigned 1 (sum / 2 ^ n) ∷ unsigned n (sum % 2 ^ n) ∷ []) }
 {
     let count = 1 << n;
     if sum < count {
@@ -31,7 +31,8 @@ fn borrowed(n: u16, a: u128, b: u128) -> JetAnswer
     requires width { IsNarrow n }
     requires first { a < 2 ^ n }
     requires second { b ≤ 2 ^ n }
-    ensures { results_of result ≡ Some (record { width = 1; number = bit (nat_lt a b) } ∷ record { width = n; number = (2 ^ n + a - b) % 2 ^ n } ∷ []) }
+    ensures { results_of result
+        ≡ Some (unsigned 1 (bit (nat_lt a b)) ∷ unsigned n ((2 ^ n + a - b) % 2 ^ n) ∷ []) }
 {
     if b <= a {
         JetAnswer::Two(Word::narrow(1, 0), Word::narrow(n, a - b))

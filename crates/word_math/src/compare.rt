@@ -6,7 +6,7 @@ ghost use Rattle.jets.specs.Jet as jet;
 ghost use Rattle.jets.specs.Jet.{amount, width_of};
 ghost use Rattle.jets.specs.Formula.{outcome, bit, shifted_left, shifted_right, rotated};
 ghost use Rattle.word_math.specs.Answer.{results_of, widths_of, numbers_of};
-ghost use Rattle.word_math.specs.Widths.{IsNarrow};
+ghost use Rattle.word_math.specs.Widths.{IsNarrow, unsigned};
 
 use crate::answer::JetAnswer;
 use crate::arguments::{one, three, two};
@@ -14,7 +14,7 @@ use crate::word::Word;
 
 /// One truth value.
 pub(crate) fn test(truth: bool) -> JetAnswer
-    ensures { results_of result ≡ Some (record { width = 1; number = bit truth } ∷ []) }
+    ensures { results_of result ≡ Some (unsigned 1 (bit truth) ∷ []) }
 {
     JetAnswer::One(Word::narrow(1, if truth { 1 } else { 0 }))
 }

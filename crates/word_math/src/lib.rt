@@ -11,8 +11,6 @@ mod op;
 mod pad;
 mod product;
 mod shift;
-#[cfg(test)]
-mod tests;
 mod value;
 mod word;
 

@@ -6,7 +6,7 @@ ghost use Rattle.jets.specs.Jet as jet;
 ghost use Rattle.jets.specs.Jet.{amount, width_of};
 ghost use Rattle.jets.specs.Formula.{outcome, ones_before, zeros_after, ones_after, shifted_left, shifted_right, rotated};
 ghost use Rattle.word_math.specs.Answer.{results_of, widths_of, numbers_of};
-ghost use Rattle.word_math.specs.Widths.{IsNarrow};
+ghost use Rattle.word_math.specs.Widths.{IsNarrow, unsigned};
 
 use crate::answer::JetAnswer;
 use crate::arguments::one;
@@ -16,7 +16,7 @@ use crate::word::Word;
 fn zeros_first(w: u16, a: u128) -> JetAnswer
     requires wide { IsNarrow w }
     requires fits { a < 2 ^ w }
-    ensures { results_of result ≡ Some (record { width = w; number = a } ∷ []) }
+    ensures { results_of result ≡ Some (unsigned w a ∷ []) }
 {
     JetAnswer::One(Word::narrow(w, a))
 }
@@ -27,7 +27,7 @@ fn ones_first(n: u16, w: u16, a: u128) -> JetAnswer
     requires wide { IsNarrow w }
     requires less { n < w }
     requires fits { a < 2 ^ n }
-    ensures { results_of result ≡ Some (record { width = w; number = ones_before n w a } ∷ []) }
+    ensures { results_of result ≡ Some (unsigned w (ones_before n w a) ∷ []) }
 {
     JetAnswer::One(Word::narrow(w, a + ((1 << w) - (1 << n))))
 }
@@ -38,7 +38,7 @@ fn zeros_last(n: u16, w: u16, a: u128) -> JetAnswer
     requires wide { IsNarrow w }
     requires less { n < w }
     requires fits { a < 2 ^ n }
-    ensures { results_of result ≡ Some (record { width = w; number = zeros_after n w a } ∷ []) }
+    ensures { results_of result ≡ Some (unsigned w (zeros_after n w a) ∷ []) }
 {
     JetAnswer::One(Word::narrow(w, a << (w - n)))
 }
@@ -49,7 +49,7 @@ fn ones_last(n: u16, w: u16, a: u128) -> JetAnswer
     requires wide { IsNarrow w }
     requires less { n < w }
     requires fits { a < 2 ^ n }
-    ensures { results_of result ≡ Some (record { width = w; number = ones_after n w a } ∷ []) }
+    ensures { results_of result ≡ Some (unsigned w (ones_after n w a) ∷ []) }
 {
     let behind = (1 << (w - n)) - 1;
     JetAnswer::One(Word::narrow(w, (a << (w - n)) + behind))

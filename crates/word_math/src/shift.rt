@@ -6,7 +6,7 @@ ghost use Rattle.jets.specs.Jet as jet;
 ghost use Rattle.jets.specs.Jet.{amount, width_of};
 ghost use Rattle.jets.specs.Formula.{outcome, bit, shifted_left, shifted_right, rotated};
 ghost use Rattle.word_math.specs.Answer.{results_of, widths_of, numbers_of};
-ghost use Rattle.word_math.specs.Widths.{IsNarrow};
+ghost use Rattle.word_math.specs.Widths.{IsNarrow, unsigned};
 
 use crate::answer::JetAnswer;
 use crate::arguments::{three, two};
@@ -35,7 +35,7 @@ fn left(n: u16, fill: u128, places: u128, a: u128) -> JetAnswer
     requires bit { fill < 2 }
     requires small { places < 2 ^ 8 }
     requires fits { a < 2 ^ n }
-    ensures { results_of result ≡ Some (record { width = n; number = shifted_left n fill places a } ∷ []) }
+    ensures { results_of result ≡ Some (unsigned n (shifted_left n fill places a) ∷ []) }
 {
     let shift = places as u16;
     if shift < n {
@@ -52,7 +52,7 @@ fn right(n: u16, fill: u128, places: u128, a: u128) -> JetAnswer
     requires bit { fill < 2 }
     requires small { places < 2 ^ 8 }
     requires fits { a < 2 ^ n }
-    ensures { results_of result ≡ Some (record { width = n; number = shifted_right n fill places a } ∷ []) }
+    ensures { results_of result ≡ Some (unsigned n (shifted_right n fill places a) ∷ []) }
 {
     let moved = places as u16;
     if moved < n {
@@ -68,7 +68,7 @@ fn rotate(n: u16, places: u16, a: u128) -> JetAnswer
     requires width { IsNarrow n }
     requires small { places ≤ n }
     requires fits { a < 2 ^ n }
-    ensures { results_of result ≡ Some (record { width = n; number = rotated n places a } ∷ []) }
+    ensures { results_of result ≡ Some (unsigned n (rotated n places a) ∷ []) }
 {
     let front = (a << places) % (1 << n);
     let back = a >> (n - places);

@@ -142,7 +142,8 @@ pub(crate) fn word_number(value: &CoreValue, level: u32) -> Option<u128>
 impl Word {
     /// The value of the core language that the word is: a bit, or the pair of its halves.
     pub fn to_value(&self, alloc: Global) -> Result<CoreValue, AllocError>
-        ensures { IfOk result (λ value. value_of value ≡ word_value (level_of self.now.width) self.now.number) }
+        ensures { IfOk result (λ value.
+            value_of value ≡ word_value (level_of self.now.width) self.now.number) }
     {
         let level = level(self.width());
         if level == 8 {
@@ -158,7 +159,8 @@ impl Word {
 
     /// The word that a value is; None where it is none of 1 to 256 bits.
     pub fn from_value(value: &CoreValue) -> Option<Word>
-        ensures found { IfSome result (λ word. value_of value.now ≡ word_value (level_of word.width) word.number) }
+        ensures found { IfSome result (λ word.
+            value_of value.now ≡ word_value (level_of word.width) word.number) }
         ensures none { IfNone result ((level : ℕ) → level ≤ 8 → IsNoWordOf level (value_of value.now)) }
     {
         for level in 0..8u32 {
@@ -191,7 +193,8 @@ fn narrow_word(level: u32, number: u128) -> Word
 
 /// The word of 256 bits that a value is.
 fn widest_word(value: &CoreValue) -> Option<Word>
-    ensures found { IfSome result (λ word. value_of value.now ≡ word_value (level_of word.width) word.number) }
+    ensures found { IfSome result (λ word.
+        value_of value.now ≡ word_value (level_of word.width) word.number) }
     ensures none { IfNone result (IsNoWordOf 8 (value_of value.now)) }
 {
     match value {
@@ -205,26 +208,5 @@ fn widest_word(value: &CoreValue) -> Option<Word>
         CoreValue::Unit => None,
         CoreValue::Left(_) => None,
         CoreValue::Right(_) => None,
-    }
-}
-
-#[cfg(test)]
-mod tests {
-    use super::*;
-    use std::test::Fail;
-
-    #[test]
-    fn words_come_back_from_their_values(rt: HostRuntime) -> Result<(), Fail> {
-        let byte = Word::new(8, 0, 200);
-        let wide = Word::new(256, 1, 7);
-        for word in [byte, wide] {
-            if let Some(word) = word {
-                let value = word.to_value(rt.alloc())?;
-                assert!(rt; Word::from_value(&value) == Some(word));
-                assert!(rt; word.bit(0) == (word.width() == 8));
-            }
-        }
-        assert!(rt; Word::from_value(&CoreValue::Unit).is_none());
-        Ok(())
     }
 }

@@ -2,11 +2,12 @@
 
 ghost use Rattle.std.specs.Prelude.{◌≡◌, ◌+◌, ◌-◌, ◌*◌, ◌/◌, ◌%◌, ◌^◌, ◌<◌, ◌≤◌, ◌↔◌, nat_eq, IsTrue, IsSome, IfSome};
 ghost use Rattle.jets.specs.Unsigned.{is_width, Unsigned, IsUnsigned};
+ghost use Rattle.word_math.specs.Widths.{unsigned};
 
 use std::marker::Model;
 
 /// A number with its width in bits, which is one of 1 to 256 by doubling.
-#[derive(Clone, Copy, Debug, PartialEq, Eq)]
+#[derive(Clone, Copy, Debug, PartialEq, Eq, Hash)]
 pub struct Word {
     width: u16,
     high: u128,
@@ -40,8 +41,8 @@ fn is_word_width(width: u16) -> bool
 impl Word {
     /// The word of a width whose number is `high * 2^128 + low`. None where the width is none of 1 to 256 by doubling, or the number doesn't fit.
     pub fn new(width: u16, high: u128, low: u128) -> Option<Word>
-        ensures valid { IsSome result ↔ IsUnsigned (record { width = width; number = high * 2 ^ 128 + low }) }
-        ensures value { IfSome result (λ w. w ≡ record { width = width; number = high * 2 ^ 128 + low }) }
+        ensures valid { IsSome result ↔ IsUnsigned (unsigned width (high * 2 ^ 128 + low)) }
+        ensures value { IfSome result (λ w. w ≡ unsigned width (high * 2 ^ 128 + low)) }
     {
         if !is_word_width(width) {
             return None;
@@ -62,7 +63,7 @@ impl Word {
     pub(crate) fn narrow(width: u16, number: u128) -> Word
         requires width { IsTrue (is_width width) }
         requires fits { number < 2 ^ width }
-        ensures { result ≡ record { width = width; number = number } }
+        ensures { result ≡ unsigned width number }
     {
         Word {
             width,

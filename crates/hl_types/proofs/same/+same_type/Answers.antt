@@ -43,16 +43,16 @@ parts-preserved t c =
     record {
       same = ap (λ b. b && left_same c.as_slice-part-items.result.now c.in-Tuple-Tuple.given (c.parts.place + 1)) (sym yes) ∙ sym next ∙ c.parts.invariant.same;
       equal =
-        let one = take_more c.as_slice-part-items.result.now c.parts.place c.part-item.result c.parts-test.true in
-        let items : c.as_slice-part-items.result.now ≡ c.in-Tuple-Tuple.parts = c.as_slice-part-items.ensures in
-        let less : c.parts.place < length c.in-Tuple-Tuple.given = omega (arith, ap length items) in
-        let other = take_more c.in-Tuple-Tuple.given c.parts.place c.part-item.result less in
-        let there = get_or_from_slice_get c.in-Tuple-Tuple.given c.parts.place c.get.result.now c.part-item.result c.get.ensures in
-        let truth = c.if-not-same_type.false in
-        let kinds : c.part-item.result ≡ c.get.result.now = rw truth at c.same_type.ensures.equal in
-        let is = c.part-item.is in
-        let h = c.parts.invariant.equal in
-        cc;
+          let one = take_more c.as_slice-part-items.result.now c.parts.place c.part-item.result c.parts-test.true in
+          let items : c.as_slice-part-items.result.now ≡ c.in-Tuple-Tuple.parts = c.as_slice-part-items.ensures in
+          let less : c.parts.place < length c.in-Tuple-Tuple.given = omega (arith, ap length items) in
+          let other = take_more c.in-Tuple-Tuple.given c.parts.place c.part-item.result less in
+          let there = get_or_from_slice_get c.in-Tuple-Tuple.given c.parts.place c.get.result.now c.part-item.result c.get.ensures in
+          let truth = c.if-not-same_type.false in
+          let kinds : c.part-item.result ≡ c.get.result.now = rw truth at c.same_type.ensures.equal in
+          let is = c.part-item.is in
+          let h = c.parts.invariant.equal in
+          cc;
     }
 
 pub returns-after-parts-clause-same : goal.returns-after-parts-clause-same

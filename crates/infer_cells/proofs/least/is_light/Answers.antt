@@ -1,5 +1,5 @@
 use Rattle.std.proofs.Common.{None, arith, length, ap, refl}
-use Rattle.simplicity.specs.Accepted.{most_weight}
+use Rattle.simplicity.specs.Limits.{most_weight}
 use Rattle.infer_cells.proofs.Listed.{bound_at, light_next, light_at}
 use Rattle.infer_cells.proofs.least.is_light.Goals as goal
 

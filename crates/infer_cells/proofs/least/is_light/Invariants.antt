@@ -1,6 +1,6 @@
 use Rattle.std.proofs.Common.{take}
 use Rattle.simplicity.specs.Typing.{IsLight}
-use Rattle.simplicity.specs.Accepted.{most_weight}
+use Rattle.simplicity.specs.Limits.{most_weight}
 use Rattle.infer_cells.specs.Typings.{typing_in}
 use Rattle.infer_cells.proofs.least.is_light.Given as goal
 

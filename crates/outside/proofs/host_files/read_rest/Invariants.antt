@@ -3,4 +3,4 @@ use Rattle.outside.specs.Streams.{KeepsWhole}
 use Rattle.outside.proofs.host_files.read_rest.Given as goal
 
 abbrev pub invariant-parts : goal.invariant-parts
-invariant-parts g l = (vec_len l.bytes ≤ l.limit) × KeepsWhole (g.F.Read.remaining l.fn.file) [] (g.F.Read.remaining l.file) l.bytes.items
+invariant-parts g l = (vec_len l.bytes ≤ l.limit) × KeepsWhole (g.F.Read.remaining l.fn.file) (g.F.Read.remaining l.file) [] l.bytes.items

@@ -1,6 +1,0 @@
-use Rattle.simplicity.specs.Types.{IsOf}
-use Rattle.core_data.specs.Data.{kind_of, value_of}
-use Rattle.core_data.proofs.tests.deep_left.Given as goal
-
-abbrev pub invariant-levels : goal.invariant-levels
-invariant-levels l = IsOf (value_of l.value) (kind_of l.kind)

@@ -1,4 +1,0 @@
-use Rattle.hl_types.proofs.tests.+write_kind.Given as goal
-
-abbrev pub decreases-write_kind : goal.decreases-write_kind
-decreases-write_kind l = l.id

@@ -1,0 +1,5 @@
+pub mod Patterns
+pub mod Typing
+pub mod Erased
+pub mod Programs
+pub mod Laws

@@ -1,0 +1,13 @@
+pub mod Moves
+pub mod Lands
+pub mod Forms
+pub mod Tags
+pub mod Sides
+pub mod Between
+pub mod Simulation
+pub mod Growing
+pub mod Traces
+pub mod Layers
+pub mod Steps
+pub mod Written
+mod Rows

@@ -1,0 +1,5 @@
+use Rattle.sharing.proofs.Cuts.{hiding_cuts}
+use Rattle.sharing.proofs.hiding_cuts_law.Goals as goal
+
+pub returns : goal.returns
+returns c = hiding_cuts

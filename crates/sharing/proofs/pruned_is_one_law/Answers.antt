@@ -1,0 +1,5 @@
+use Rattle.sharing.proofs.Pruned.{pruned_is_one}
+use Rattle.sharing.proofs.pruned_is_one_law.Goals as goal
+
+pub returns : goal.returns
+returns c = pruned_is_one

@@ -1,0 +1,5 @@
+use Rattle.simplicity.proofs.Digits.{words_are_digits}
+use Rattle.simplicity.proofs.words_are_digits_law.Goals as goal
+
+pub returns : goal.returns
+returns c = words_are_digits

@@ -1,0 +1,5 @@
+use Rattle.hl_types.specs.Walks.{AreSound}
+use Rattle.syntax_rows.proofs.forms.aliases.Given as goal
+
+abbrev pub invariant-loop-name : goal.invariant-loop-name
+invariant-loop-name l = AreSound l.aliases
