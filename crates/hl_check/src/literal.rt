@@ -7,9 +7,9 @@ ghost use Rattle.hl_scope.specs.Leaves.{literal_form};
 ghost use Rattle.simplicityhl.specs.Kinds.{is_width, IsSound};
 
 use hl_data::TypedForm;
+use hl_literals::word_spelled;
 use hl_scope::{Asked, Body, CheckRefusal, Checker, needs, number_width};
 use hl_syntax::Rule;
-use hl_values::word_spelled;
 use lists::Text;
 
 /// Whether a literal's number fits a width.

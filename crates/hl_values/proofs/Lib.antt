@@ -8,6 +8,5 @@ pub mod Leaving
 pub mod Lists
 pub mod Printing
 pub mod Reading
-pub mod Spelling
 pub mod Texts
 pub mod Words

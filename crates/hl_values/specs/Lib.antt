@@ -3,5 +3,4 @@ pub mod Leaves
 pub mod Of
 pub mod Printed
 pub mod Reads
-pub mod Wide
 pub mod Written

@@ -4,7 +4,6 @@
 mod decode;
 mod encode;
 mod join;
-mod literal;
 mod print;
 mod read;
 mod refusal;
@@ -13,7 +12,7 @@ mod written;
 pub use decode::from_core;
 pub use encode::to_core;
 pub use hl_data::{Entries, Entry, HlValue, HlValues, Names};
-pub use literal::word_spelled;
+pub use hl_literals::word_spelled;
 pub use print::print_value;
 pub use read::read_value;
 pub use refusal::ValueRefusal;

@@ -8,9 +8,9 @@ ghost use Rattle.hl_values.specs.Reads.{Answers};
 ghost use Rattle.hl_values.specs.Written.{all_at, each_at, number_at, written, written_form};
 ghost use Rattle.simplicityhl.specs.Kinds.{is_width, IsSound};
 
-use crate::literal::word_spelled;
 use crate::refusal::ValueRefusal;
 use hl_data::{HlValue, HlValues};
+use hl_literals::word_spelled;
 use hl_syntax::{Expr, ExprForm, Exprs, HlType, HlTypes};
 use lists::Boxed;
 use std::alloc::Global;

@@ -4,7 +4,7 @@ ghost use Rattle.std.specs.Prelude.{◌≡◌, ◌<◌, ◌≤◌, ◌+◌, ◌*
 ghost use Rattle.std.specs.Char.{digit_value, is_ascii_digit, is_ascii_hexdigit};
 ghost use Rattle.std.specs.List.{list_any};
 ghost use Rattle.hl_meaning.specs.Literals.{based_value, literal_value};
-ghost use Rattle.hl_values.specs.Wide.{number_of};
+ghost use Rattle.hl_literals.specs.Wide.{number_of};
 ghost use Rattle.simplicityhl.specs.Kinds.{is_width};
 ghost use Rattle.simplicityhl.specs.Tokens.{are_digits, is_hexadecimal};
 

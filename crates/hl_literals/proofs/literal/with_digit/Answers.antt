@@ -1,6 +1,6 @@
 use Rattle.std.proofs.Common.{refl}
-use Rattle.hl_values.proofs.Spelling.{digit_found, digit_none}
-use Rattle.hl_values.proofs.literal.with_digit.Goals as goal
+use Rattle.hl_literals.proofs.Spelling.{digit_found, digit_none}
+use Rattle.hl_literals.proofs.literal.with_digit.Goals as goal
 
 pub returns-in_err-high-clause-none : goal.returns-in_err-high-clause-none
 returns-in_err-high-clause-none c =

@@ -1,6 +1,6 @@
 use Rattle.std.proofs.Common.{sym, ◌∙◌}
-use Rattle.hl_values.proofs.Spelling.{decimal_spelled}
-use Rattle.hl_values.proofs.literal.literal_number.Goals as goal
+use Rattle.hl_literals.proofs.Spelling.{decimal_spelled}
+use Rattle.hl_literals.proofs.literal.literal_number.Goals as goal
 
 pub returns-then-is_decimal-clause-found : goal.returns-then-is_decimal-clause-found
 returns-then-is_decimal-clause-found c = let h = decimal_spelled c.args.word.now (sym c.is_decimal.ensures ∙ c.if-is_decimal.true) in rw h c.based_number.ensures.found

@@ -1,5 +1,5 @@
-use Rattle.hl_values.proofs.Spelling.{past_read}
-use Rattle.hl_values.proofs.literal.based_number.Goals as goal
+use Rattle.hl_literals.proofs.Spelling.{past_read}
+use Rattle.hl_literals.proofs.literal.based_number.Goals as goal
 
 pub returns-in_err-number-clause-none : goal.returns-in_err-number-clause-none
 returns-in_err-number-clause-none c =
