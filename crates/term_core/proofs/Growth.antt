@@ -1,15 +1,19 @@
 -- What a table of terms keeps when it grows, and when its types do.
-use Rattle.std.proofs.Common.{◌≡◌, ℕ, ◌+◌, ◌<◌, ◌≤◌, List, [], ◌∷◌, ◌++◌, length, refl, ap, ◌∙◌, arith, append_assoc, append-nil, length-append}
+use Rattle.std.proofs.Common.{◌≡◌, ℕ, zero, suc, ◌+◌, ◌<◌, ◌≤◌, List, [], ◌∷◌, ◌++◌, length, slice_get, Some, refl, sym, ap, ◌∙◌, arith, append_assoc, append-nil, length-append}
+use Rattle.std.proofs.lemmas.Option.{slice_get_within}
 use Rattle.std.proofs.Math.ListN.{get_or-append}
 use Rattle.std.proofs.Math.Seq.{get_or-append_seam}
 use Rattle.simplicity.specs.Types.{Kind, One}
-use Rattle.simplicity.specs.Typing.{arrow}
+use Rattle.simplicity.specs.Nodes.{AreUnder}
+use Rattle.simplicity.specs.Typing.{Arrow, arrow}
 use Rattle.simplicity.specs.Canon.{Declared}
 use Rattle.simplicity.specs.Canon as term
 use Rattle.type_table.specs.Kinds.{IsGrown}
 use Rattle.type_table.proofs.Growth.{grown_length, kind_at-grown}
+use Rattle.term_core.specs.declared.table_node.Node.{Node}
+use Rattle.term_core.specs.declared.table_node.Node.TheVariants as code
 use Rattle.term_core.specs.declared.table_node.TermRow.{TermRow}
-use Rattle.term_core.specs.Terms.{term_of, row_term, terms_after, terms, term_at, MayFollow, FollowFrom, StandsOver, MeansTerm, KeepsRows}
+use Rattle.term_core.specs.Terms.{child_ids, term_of, node_term, row_term, terms_after, terms, term_at, MayFollow, FollowFrom, StandsOver, MeansTerm, KeepsRows}
 use Rattle.term_core.specs.Laws.{TermsStay, StandingStays}
 
 pub terms_after-append : (kinds : List Kind) (ts : List Declared) (rows more : List TermRow) → terms_after kinds ts (rows ++ more) ≡ terms_after kinds (terms_after kinds ts rows) more
@@ -85,6 +89,47 @@ means_last kinds rows row id at = record {
       ∙ ap (term_of (terms kinds rows ++ row_term kinds (terms kinds rows) row ∷ [])) here
       ∙ get_or-append_seam (terms kinds rows) (row_term kinds (terms kinds rows) row) [] (term.UnitTerm (arrow One One));
 }
+
+-- a row's term is over the terms of its children alone
+same_node : (ts us : List Declared) (n : Node) (a : Arrow) → ((i : ℕ) → i < length ts → term_of us i ≡ term_of ts i) → AreUnder (length ts) (child_ids n) → node_term us n a ≡ node_term ts n a
+same_node ts us code.Iden a same under = refl
+same_node ts us code.Unit a same under = refl
+same_node ts us (code.Injl i) a same under = ap (term.Injl a) (same i under.0)
+same_node ts us (code.Injr i) a same under = ap (term.Injr a) (same i under.0)
+same_node ts us (code.Take i) a same under = ap (term.Take a) (same i under.0)
+same_node ts us (code.Drop i) a same under = ap (term.Drop a) (same i under.0)
+same_node ts us (code.Comp i j) a same under = let e = same i under.0 in let f = same j under.1.0 in cc
+same_node ts us (code.Case i j) a same under = let e = same i under.0 in let f = same j under.1.0 in cc
+same_node ts us (code.Pair i j) a same under = let e = same i under.0 in let f = same j under.1.0 in cc
+same_node ts us (code.AssertL i h) a same under = ap (λ t. term.AssertL a t h) (same i under.0)
+same_node ts us (code.AssertR h i) a same under = ap (term.AssertR a h) (same i under.0)
+same_node ts us code.Fail a same under = refl
+same_node ts us (code.Witness n) a same under = refl
+same_node ts us (code.Word w) a same under = refl
+
+-- what a row that stands there means
+means_after : (kinds : List Kind) (ts : List Declared) (rows : List TermRow) (id : ℕ) (row : TermRow) → FollowFrom kinds ts rows → slice_get rows id ≡ Some row →
+    term_of (terms_after kinds ts rows) (length ts + id) ≡ row_term kinds (terms_after kinds ts rows) row
+means_after kinds ts [] id row f h = cc
+means_after kinds ts (first ∷ rows) zero row f h =
+    let is : first ≡ row = cc in
+    let t = row_term kinds ts first in
+    let last : length ts < length (ts ++ row_term kinds ts first ∷ []) = omega (arith, length-append ts (row_term kinds ts first ∷ [])) in
+    let here : length ts + 0 ≡ length ts = omega arith in
+    ap (term_of (terms_after kinds (ts ++ t ∷ []) rows)) here
+    ∙ terms_stay_after kinds (ts ++ t ∷ []) rows (length ts) last
+    ∙ get_or-append_seam ts t [] (term.UnitTerm (arrow One One))
+    ∙ sym (same_node ts (terms_after kinds (ts ++ t ∷ []) rows) first.node _ (terms_stay_after kinds ts (first ∷ rows)) f.0.children)
+    ∙ ap (row_term kinds (terms_after kinds (ts ++ t ∷ []) rows)) is
+means_after kinds ts (first ∷ rows) (suc id) row f h =
+    let t = row_term kinds ts first in
+    let here : length ts + suc id ≡ length (ts ++ row_term kinds ts first ∷ []) + id = omega (arith, length-append ts (row_term kinds ts first ∷ [])) in
+    ap (term_of (terms_after kinds (ts ++ t ∷ []) rows)) here ∙ means_after kinds (ts ++ t ∷ []) rows id row f.1 h
+
+pub means_there : (kinds : List Kind) (rows : List TermRow) (id : ℕ) (row : TermRow) → StandsOver kinds rows → slice_get rows id ≡ Some row → MeansTerm kinds rows id (row_term kinds (terms kinds rows) row)
+means_there kinds rows id row stands h =
+    let here : id ≡ 0 + id = omega arith in
+    record { within = slice_get_within rows id row h; is = ap (term_of (terms kinds rows)) here ∙ means_after kinds [] rows id row stands.each h }
 
 pub kept_self : (rows : List TermRow) → KeepsRows rows rows
 kept_self rows = record { more = []; is = rw append-nil refl }

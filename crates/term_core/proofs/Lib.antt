@@ -3,3 +3,5 @@ mod Carried
 pub mod Growth
 pub mod Follow
 mod TypedTerms
+mod Keys
+mod Adding

@@ -1,6 +1,7 @@
 //! Terms: as lists of nodes in the order of their bits, and as a table of nodes by number.
 #![tactic(auto)]
 
+mod keyed;
 mod laws;
 mod level;
 mod list;

@@ -9,7 +9,7 @@ pub type NodeId = usize;
 /// A node of a table, which names its children by their numbers.
 ///
 /// An assertion carries the 32 bytes of the root that stands for its hidden side, a witness its own number.
-#[derive(Clone, Copy, Debug, PartialEq, Eq)]
+#[derive(Clone, Copy, Debug, PartialEq, Eq, Hash)]
 pub enum Node {
     Iden,
     Unit,
@@ -28,7 +28,7 @@ pub enum Node {
 }
 
 /// A node with its arrow.
-#[derive(Clone, Copy, Debug, PartialEq, Eq)]
+#[derive(Clone, Copy, Debug, PartialEq, Eq, Hash)]
 pub struct TermRow {
     pub node: Node,
     pub source: TypeId,
