@@ -1,0 +1,4 @@
+mod Meaning
+mod Steps
+mod Typed
+mod Listing

@@ -1,0 +1,5 @@
+use Rattle.row_lists.proofs.Listing.{Listing}
+use Rattle.row_lists.proofs.list.list_rows.Given as goal
+
+abbrev pub invariant-loop-id : goal.invariant-loop-id
+invariant-loop-id l = Listing l.types l.table l.id l.nodes l.arrows l.names.items l.places.items
