@@ -12,3 +12,4 @@ pub mod Cuts
 pub mod Pruned
 pub mod Lockstep
 pub mod CanonOne
+pub mod Standing

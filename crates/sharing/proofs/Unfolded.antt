@@ -146,7 +146,7 @@ number_skips : (n : Node) (number k w : ℕ) (rest : List ℕ) → slice_get res
 number_skips node.Witness number k w rest e = rw add-one e
 number_skips _ number k w rest e = e
 
-picked_number : (f : ℕ → ℕ) (ns : List Node) (is : List ℕ) (k i : ℕ) → Within ns is → slice_get is k ≡ Some i → slice_get ns i ≡ Some node.Witness →
+pub picked_number : (f : ℕ → ℕ) (ns : List Node) (is : List ℕ) (k i : ℕ) → Within ns is → slice_get is k ≡ Some i → slice_get ns i ≡ Some node.Witness →
     slice_get (numbers_at ns is) (witness_number (picked f ns is) k) ≡ Some (witness_number ns i)
 picked_number f ns [] k i w h e = absurd (cc)
 picked_number f ns (x ∷ is) zero i w h e =
@@ -174,7 +174,7 @@ index_is [] k x h = absurd (cc)
 index_is (y ∷ xs) zero x h = let same : y ≡ x = cc in same
 index_is (y ∷ xs) (suc k) x h = index_is xs k x h
 
-gather_carries : (ns : List Node) → IsPlaced ns → 0 < length ns →
+pub gather_carries : (ns : List Node) → IsPlaced ns → 0 < length ns →
     Carried (λ i. has i (post_order ns) ≡ true) (λ i. position i (post_order ns)) (λ k. slice_index_or (gathered_numbers ns) k 0) ns (gathered ns)
 gather_carries ns placed full =
     let done = post_order ns in
@@ -262,13 +262,13 @@ none_first [] (m ∷ ms) = refl
 none_first (n ∷ ns) [] = refl
 none_first (n ∷ ns) (m ∷ ms) = refl
 
-merge_keeps_numbers : (ns ms : List Node) (ts us : Typing) (f : ℕ → ℕ) → IsMerged ns ts ms us f → images f (range_with_len 0 (length ns)) ≡ range_with_len 0 (length ms) → (i : ℕ) → i < length ns → Keeps f ns ms i
+pub merge_keeps_numbers : (ns ms : List Node) (ts us : Typing) (f : ℕ → ℕ) → IsMerged ns ts ms us f → images f (range_with_len 0 (length ns)) ≡ range_with_len 0 (length ms) → (i : ℕ) → i < length ns → Keeps f ns ms i
 merge_keeps_numbers ns ms ts us f merged in_order i l =
     let all = numbers_from ns ms ts us f 0 (length ns) 0 (length ms) merged (omega arith) (record { each = λ j p. absurd (omega arith); number = none_first ns ms }) in_order in
     let same : 0 + i ≡ i = omega arith in
     all_of_at (Keeps f ns ms) (range_with_len 0 (length ns)) i i all (range_get 0 (length ns) i l ∙ ap Some same)
 
-merge_carries_trees : (ns ms : List Node) (ts us : Typing) (f : ℕ → ℕ) → IsPlaced ns → IsPlaced ms → IsMerged ns ts ms us f → images f (range_with_len 0 (length ns)) ≡ range_with_len 0 (length ms) →
+pub merge_carries_trees : (ns ms : List Node) (ts us : Typing) (f : ℕ → ℕ) → IsPlaced ns → IsPlaced ms → IsMerged ns ts ms us f → images f (range_with_len 0 (length ns)) ≡ range_with_len 0 (length ms) →
     Carried (λ i. i < length ns) f (λ k. k) ns ms
 merge_carries_trees ns ms ts us f placed more merged in_order =
     let walk = Rattle.sharing.proofs.Merged.merge_carries ns ms ts us f placed more merged in

@@ -1,16 +1,16 @@
 -- Laws of cuts, order, merging and reordering, and that pruning a list and listing a term have one result at most (this project's own).
-use Rattle.std.specs.Prelude.{◌≡◌, ℕ, ◌<◌, List, length}
+use Rattle.std.specs.Prelude.{◌≡◌, ℕ, ◌-◌, ◌<◌, List, length, map, None}
 use Rattle.std.specs.List.{range_with_len, slice_index_or}
 use Rattle.simplicity.specs.Types.{Value}
 use Rattle.simplicity.specs.Terms as term
 use Rattle.simplicity.specs.Terms.{Term}
 use Rattle.simplicity.specs.Nodes.{Node, IsPlaced, HasRoot, tree_of}
-use Rattle.simplicity.specs.Order.{IsOrdered}
+use Rattle.simplicity.specs.Order.{IsOrdered, post_order}
 use Rattle.simplicity.specs.Places.{ArePlaces}
 use Rattle.simplicity.specs.Typing.{Typing, Arrow, IsLeast, IsTypingAt}
 use Rattle.simplicity.specs.Shared.{IsShared}
 use Rattle.simplicity.specs.Pruning.{IsCut, IsHide, IsMerged, IsReordered, IsPruned, gathered, gathered_numbers}
-use Rattle.simplicity.specs.Canon.{Declared, IsCanon}
+use Rattle.simplicity.specs.Canon.{Declared, Stands, names_at, IsCanon}
 use Rattle.sharing.specs.Images.{images}
 
 -- hiding what a run doesn't visit is a cut
@@ -62,6 +62,20 @@ abbrev pub MergedIsReordered : Type 0
 MergedIsReordered = (ns ms : List Node) (ts us : Typing) (places : List ℕ) (root : Arrow) (place : ℕ → ℕ) → IsPlaced ns → 0 < length ns → IsPlaced ms →
     IsLeast (gathered ns) root ts → IsMerged (gathered ns) ts ms us place → IsShared ms us → length us ≡ length ms →
     ComeInOrder place (gathered ns) ms → ArePlaces ns ms place places → IsReordered ns root ms us places
+
+-- the entries of a typing at these indices, in their order
+abbrev pub entries_at : Typing → List ℕ → Typing
+entries_at ts is = map (λ i. slice_index_or ts i None) is
+
+-- what the root of a list stands for, the root of the list of what it reaches stands for too
+abbrev pub GatheringStands : Type 0
+GatheringStands = (ns : List Node) (ds : Typing) (names : List ℕ) (t : Declared) → IsPlaced ns → 0 < length ns → Stands ns ds names (length ns - 1) t →
+    Stands (gathered ns) (entries_at ds (post_order ns)) (names_at names (gathered_numbers ns)) (length (gathered ns) - 1) t
+
+-- and the root of the list with nodes merged so that the places come in order, with the same names
+abbrev pub MergingStands : Type 0
+MergingStands = (ns ms : List Node) (ts us : Typing) (place : ℕ → ℕ) (names : List ℕ) (t : Declared) → IsPlaced ns → IsPlaced ms → 0 < length ns →
+    IsMerged ns ts ms us place → ComeInOrder place ns ms → Stands ns ts names (length ns - 1) t → Stands ms us names (length ms - 1) t
 
 -- a program and its witness values are pruned to one list, typing and values at most
 abbrev pub PrunedIsOne : Type 0

@@ -1,7 +1,7 @@
 // Laws of cuts, sharing and order, over the core language: each function below has no body, and its contract is a law.
 #![tactic(auto)]
 
-ghost use Rattle.sharing.specs.Laws.{HidingCuts, HidingIsOne, CutsArePlaced, MergingKeepsLeast, GatheringOrders, GatheringIsTyped, MergingOrders, ReorderedIsOne, MergedIsReordered, PrunedIsOne, ReorderingRenumbers, CanonIsOne};
+ghost use Rattle.sharing.specs.Laws.{HidingCuts, HidingIsOne, CutsArePlaced, MergingKeepsLeast, GatheringOrders, GatheringIsTyped, GatheringStands, MergingOrders, MergingStands, ReorderedIsOne, MergedIsReordered, PrunedIsOne, ReorderingRenumbers, CanonIsOne};
 
 /// Hiding what a run doesn't visit is a cut.
 pub fn hiding_cuts_law()
@@ -61,4 +61,14 @@ pub fn reordering_renumbers_law()
 /// A term with declared arrows has one canonical list at most at an arrow.
 pub fn canon_is_one_law()
     ensures { CanonIsOne }
+{}
+
+/// What the root of a list stands for, the root of the list of what it reaches stands for too.
+pub fn gathering_stands_law()
+    ensures { GatheringStands }
+{}
+
+/// What the root of a list stands for, the root of the list with equal nodes merged stands for too.
+pub fn merging_stands_law()
+    ensures { MergingStands }
 {}
