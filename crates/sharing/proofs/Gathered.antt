@@ -1,12 +1,12 @@
 -- A typing of a list gives one of what its root reaches.
-use Rattle.std.proofs.Common.{◌≡◌, refl, ap, sym, subst, ◌∙◌, ℕ, suc, ◌+◌, ◌-◌, ◌<◌, true, List, [], ◌∷◌, length, take, Option, Some, arith}
+use Rattle.std.proofs.Common.{◌≡◌, refl, ap, sym, subst, ◌∙◌, ℕ, ◌+◌, ◌-◌, ◌<◌, List, length, take, Option, Some, arith}
 use Rattle.std.specs.Prelude.{slice_get}
 use Rattle.std.specs.List.{slice_index_or}
 use Rattle.std.proofs.lemmas.Option.{get_or_from_slice_get}
 use Rattle.simplicity.specs.Nodes as node
 use Rattle.simplicity.specs.Nodes.{Node, AreUnder, children, IsPlaced}
-use Rattle.simplicity.specs.Order.{has, children_at, post_order}
-use Rattle.simplicity.specs.Typing.{Typing, Arrow, EntryMeets, IsTyping, IsTypingAt}
+use Rattle.simplicity.specs.Order.{post_order}
+use Rattle.simplicity.specs.Typing.{Typing, Arrow, EntryMeets, IsTypingAt}
 use Rattle.simplicity.specs.Pruning.{renamed, gathered}
 use Rattle.simplicity.proofs.Typings.{typing_length, entry_at}
 use Rattle.simplicity.proofs.Unfold.{follows_at, children_under}
@@ -14,7 +14,7 @@ use Rattle.sharing.specs.Laws.{GatheringIsTyped}
 use Rattle.sharing.proofs.Closed.{AllHad, AllOf}
 use Rattle.sharing.proofs.Merging.{within_of, there_at, meets_by, entry_back, pulled_from, pulled_length, pulled_at, pulled_there}
 use Rattle.sharing.proofs.Orderly.{position}
-use Rattle.sharing.proofs.Gathering.{Picked, post_picked, picked_within, picked_at, picked_length, place_in_front, children_are, had_at, gathered_placed, gathered_length, root_place}
+use Rattle.sharing.proofs.Gathering.{Picked, post_picked, picked_within, picked_at, place_in_front, children_are, had_at, gathered_placed, gathered_length, root_place}
 
 renamed_back : (f h : ℕ → ℕ) (n : Node) → AllOf (λ c. f (h c) ≡ c) (children n) → renamed f (renamed h n) ≡ n
 renamed_back f h (node.Injl i) on = ap node.Injl on.0
@@ -79,14 +79,17 @@ module _ (ns : List Node) (root : Arrow) (ts : Typing) (placed : IsPlaced ns) (f
       entry_back k old entries ts n e (λ j l d h. entry j d (omega (arith, l, inside)) h) under whole
 
   gathered_typing : (us : Typing) × IsTypingAt (gathered ns) root us
-  gathered_typing = (entries, record {
-    typed = meets_by entries (gathered ns) entries (sym (pulled_length old ts 0 (length (gathered ns)))) each;
-    rooted =
-        let last = root_place ns placed full in
-        let some = last.1 in
-        let at : old (length (gathered ns) - 1) ≡ length ns - 1 = ap (λ (x : ℕ). old (x - 1)) count ∙ old_is (length done - 1) (length ns - 1) last.0 in
-        entry (length (gathered ns) - 1) (Some root) (omega (arith, count, some)) (ap (slice_get ts) at ∙ typed.rooted);
-  })
+  gathered_typing = (
+    entries,
+    record {
+      typed = meets_by entries (gathered ns) entries (sym (pulled_length old ts 0 (length (gathered ns)))) each;
+      rooted =
+          let last = root_place ns placed full in
+          let some = last.1 in
+          let at : old (length (gathered ns) - 1) ≡ length ns - 1 = ap (λ (x : ℕ). old (x - 1)) count ∙ old_is (length done - 1) (length ns - 1) last.0 in
+          entry (length (gathered ns) - 1) (Some root) (omega (arith, count, some)) (ap (slice_get ts) at ∙ typed.rooted);
+    },
+  )
 
 pub gathering_is_typed : GatheringIsTyped
 gathering_is_typed ns root ts placed full typed = gathered_typing ns root ts placed full typed

@@ -13,3 +13,4 @@ pub mod Pruned
 pub mod Lockstep
 pub mod CanonOne
 pub mod Standing
+pub mod Leaves

@@ -127,7 +127,7 @@ carried_tree P f r ns ms to _ _ p (node.UnfoldWitness i is) =
 carried_tree P f r ns ms to _ _ p (node.UnfoldWord i k n is) = record { tree = term.Word k n; unfolds = node.UnfoldWord (f i) k n (to.nodes i (node.Word k n) p is); is = refl }
 
 -- the numbers of witnesses that are picked
-count_renamed : (f : ℕ → ℕ) (n : Node) (w : ℕ) → count_after (renamed f n) w ≡ count_after n w
+pub count_renamed : (f : ℕ → ℕ) (n : Node) (w : ℕ) → count_after (renamed f n) w ≡ count_after n w
 count_renamed f node.Iden w = refl
 count_renamed f node.UnitNode w = refl
 count_renamed f (node.Injl i) w = refl

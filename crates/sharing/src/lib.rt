@@ -1,6 +1,7 @@
 // Laws of cuts, sharing and order, over the core language: each function below has no body, and its contract is a law.
 #![tactic(auto)]
 
+ghost use Rattle.sharing.specs.Leaves.{WitnessesStandAlone};
 ghost use Rattle.sharing.specs.Laws.{HidingCuts, HidingIsOne, CutsArePlaced, MergingKeepsLeast, GatheringOrders, GatheringIsTyped, GatheringStands, MergingOrders, MergingStands, ReorderedIsOne, MergedIsReordered, PrunedIsOne, ReorderingRenumbers, CanonIsOne};
 
 /// Hiding what a run doesn't visit is a cut.
@@ -71,4 +72,10 @@ pub fn gathering_stands_law()
 /// What the root of a list stands for, the root of the list with equal nodes merged stands for too.
 pub fn merging_stands_law()
     ensures { MergingStands }
+{}
+
+/// The list of what is reached has as many witness nodes as the root's term has witness leaves, where each witness node
+/// has one place in the root's tree.
+pub fn witnesses_stand_alone_law()
+    ensures { WitnessesStandAlone }
 {}
