@@ -70,7 +70,7 @@ shown_renamed f (node.Fail e) s = tt
 shown_renamed f node.Witness s = tt
 shown_renamed f (node.Word k n) s = tt
 
-abbrev Onward : (ℕ → ℕ) → List Node → List Node → ℕ → Type 0
+abbrev pub Onward : (ℕ → ℕ) → List Node → List Node → ℕ → Type 0
 Onward f xs ys c = (m : Node) → slice_get xs c ≡ Some m → slice_get ys (f c) ≡ Some (renamed f m)
 
 shown_by : (f : ℕ → ℕ) (xs ys : List Node) (c : ℕ) (o : Option Node) → slice_get xs c ≡ o → Onward f xs ys c → IsShown o → IsShown (slice_get ys (f c))
@@ -166,7 +166,7 @@ get_take [] (suc k) i h = refl
 get_take (x ∷ xs) (suc k) zero h = refl
 get_take (x ∷ xs) (suc k) (suc i) h = get_take xs k i (omega arith)
 
-had_at : (done : List ℕ) (c : ℕ) (is : List ℕ) → AllHad done is → (P : ℕ → Type 0) → ((i : ℕ) → has i done ≡ true → P i) → AllOf P is
+pub had_at : (done : List ℕ) (c : ℕ) (is : List ℕ) → AllHad done is → (P : ℕ → Type 0) → ((i : ℕ) → has i done ≡ true → P i) → AllOf P is
 had_at done c [] h P on = tt
 had_at done c (i ∷ is) h P on = (on i h.0, had_at done c is h.1 P on)
 
@@ -185,7 +185,7 @@ abbrev pub pick : List Node → List ℕ → List Node
 pick ns done = picked (λ i. position i done) ns done
 
 -- an index in a front stands there
-place_in_front : (ns : List Node) (done : List ℕ) (k c : ℕ) → Picked ns done → has c (take k done) ≡ true → (position c done < k) × (slice_get done (position c done) ≡ Some c)
+pub place_in_front : (ns : List Node) (done : List ℕ) (k c : ℕ) → Picked ns done → has c (take k done) ≡ true → (position c done < k) × (slice_get done (position c done) ≡ Some c)
 place_in_front ns done k c p h =
     let at = found c (take k done) h in
     let there = get_of_take done k at.place c at.there in

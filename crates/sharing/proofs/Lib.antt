@@ -3,6 +3,7 @@ pub mod Merging
 pub mod Walks
 pub mod Orderly
 pub mod Gathering
+pub mod Gathered
 pub mod Merged
 pub mod Reordered
 pub mod Unfolded

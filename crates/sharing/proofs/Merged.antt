@@ -52,7 +52,7 @@ added_from true x j acc h old new = old h
 added_from false x j acc h old new =
     or_case (has j acc) (nat_eq j x || false) (sym (has_last j x acc) ∙ h) old (λ g. or_case (nat_eq j x) false g (λ e. new (sym (eqb-true j x e))) (λ e. absurd (cc)))
 
-into_from : {C : Type 0} (f : ℕ → ℕ) (j : ℕ) (acc is : List ℕ) → has j (into f acc is) ≡ true → (has j acc ≡ true → C) → ((k i : ℕ) → slice_get is k ≡ Some i → f i ≡ j → C) → C
+pub into_from : {C : Type 0} (f : ℕ → ℕ) (j : ℕ) (acc is : List ℕ) → has j (into f acc is) ≡ true → (has j acc ≡ true → C) → ((k i : ℕ) → slice_get is k ≡ Some i → f i ≡ j → C) → C
 into_from f j acc [] h old new = old h
 into_from f j acc (x ∷ xs) h old new =
     into_from f j (added (f x) acc) xs h (λ g. added_from (has (f x) acc) (f x) j acc g old (λ e. new 0 x refl e)) (λ k i g e. new (suc k) i g e)

@@ -58,7 +58,7 @@ under_typed ts _ _ _ (row.Witness a b) = tt
 under_typed ts _ _ _ (row.Word k n) = tt
 
 -- entries come back, below a number
-abbrev Back : ℕ → (ℕ → ℕ) → Typing → Typing → Type 0
+abbrev pub Back : ℕ → (ℕ → ℕ) → Typing → Typing → Type 0
 Back n f ws vs = (k : ℕ) → k < n → (e : Option Arrow) → slice_get vs (f k) ≡ Some e → slice_get ws k ≡ Some e
 
 meets_back : (m : ℕ) (f : ℕ → ℕ) (ws vs : Typing) (n : Node) (a b : Kind) → Back m f ws vs → AreUnder m (children n) → Meets vs (renamed f n) a b → Meets ws n a b
@@ -128,12 +128,12 @@ under_entry ts (node.Fail e) None is = elim is [ ]
 under_entry ts node.Witness None is = elim is [ ]
 under_entry ts (node.Word k m) None is = elim is [ ]
 
-entry_back : (m : ℕ) (f : ℕ → ℕ) (ws vs : Typing) (n : Node) (e : Option Arrow) → Back m f ws vs → AreUnder m (children n) → EntryMeets vs (renamed f n) e → EntryMeets ws n e
+pub entry_back : (m : ℕ) (f : ℕ → ℕ) (ws vs : Typing) (n : Node) (e : Option Arrow) → Back m f ws vs → AreUnder m (children n) → EntryMeets vs (renamed f n) e → EntryMeets ws n e
 entry_back m f ws vs n None on u h = hidden_back f n h
 entry_back m f ws vs n (Some a) on u h = meets_back m f ws vs n a.source a.target on u h
 
 -- entries meet where each does
-meets_by : (ts : Typing) (ns : List Node) (es : Typing) → length ns ≡ length es →
+pub meets_by : (ts : Typing) (ns : List Node) (es : Typing) → length ns ≡ length es →
     ((i : ℕ) (n : Node) (e : Option Arrow) → slice_get ns i ≡ Some n → slice_get es i ≡ Some e → EntryMeets ts n e) → EntriesMeet ts ns es
 meets_by ts [] [] l on = tt
 meets_by ts [] (e ∷ es) l on = absurd (omega arith)
@@ -157,15 +157,15 @@ below_at (c ∷ ts) (f ∷ us) zero d e b h g =
 below_at (c ∷ ts) (f ∷ us) (suc i) d e b h g = below_at ts us i d e b.1 h g
 
 -- a typing pulled back along places
-abbrev pulled_from : (ℕ → ℕ) → Typing → ℕ → ℕ → Typing
+abbrev pub pulled_from : (ℕ → ℕ) → Typing → ℕ → ℕ → Typing
 pulled_from f vs low zero = []
 pulled_from f vs low (suc n) = unwrap_or (slice_get vs (f low)) None ∷ pulled_from f vs (suc low) n
 
-pulled_length : (f : ℕ → ℕ) (vs : Typing) (low n : ℕ) → length (pulled_from f vs low n) ≡ n
+pub pulled_length : (f : ℕ → ℕ) (vs : Typing) (low n : ℕ) → length (pulled_from f vs low n) ≡ n
 pulled_length f vs low zero = refl
 pulled_length f vs low (suc n) = ap suc (pulled_length f vs (suc low) n)
 
-pulled_at : (f : ℕ → ℕ) (vs : Typing) (low n k : ℕ) (e : Option Arrow) → k < n → slice_get vs (f (low + k)) ≡ Some e → slice_get (pulled_from f vs low n) k ≡ Some e
+pub pulled_at : (f : ℕ → ℕ) (vs : Typing) (low n k : ℕ) (e : Option Arrow) → k < n → slice_get vs (f (low + k)) ≡ Some e → slice_get (pulled_from f vs low n) k ≡ Some e
 pulled_at f vs low zero k e l h = absurd (omega arith)
 pulled_at f vs low (suc n) zero e l h =
     let same : low + 0 ≡ low = omega arith in
@@ -175,7 +175,7 @@ pulled_at f vs low (suc n) (suc k) e l h =
     let same : suc low + k ≡ low + suc k = omega arith in
     pulled_at f vs (suc low) n k e (omega arith) (ap (λ (x : ℕ). slice_get vs (f x)) same ∙ h)
 
-pulled_there : (f : ℕ → ℕ) (vs : Typing) (n k : ℕ) (e : Option Arrow) → k < n → f k < length vs → slice_get (pulled_from f vs 0 n) k ≡ Some e → slice_get vs (f k) ≡ Some e
+pub pulled_there : (f : ℕ → ℕ) (vs : Typing) (n k : ℕ) (e : Option Arrow) → k < n → f k < length vs → slice_get (pulled_from f vs 0 n) k ≡ Some e → slice_get vs (f k) ≡ Some e
 pulled_there f vs n k e l inside h =
     let found = there_at vs (f k) inside in
     let zero_more : 0 + k ≡ k = omega arith in

@@ -7,7 +7,7 @@ use Rattle.simplicity.specs.Terms.{Term}
 use Rattle.simplicity.specs.Nodes.{Node, IsPlaced, HasRoot, tree_of}
 use Rattle.simplicity.specs.Order.{IsOrdered}
 use Rattle.simplicity.specs.Places.{ArePlaces}
-use Rattle.simplicity.specs.Typing.{Typing, Arrow, IsLeast}
+use Rattle.simplicity.specs.Typing.{Typing, Arrow, IsLeast, IsTypingAt}
 use Rattle.simplicity.specs.Shared.{IsShared}
 use Rattle.simplicity.specs.Pruning.{IsCut, IsHide, IsMerged, IsReordered, IsPruned, gathered, gathered_numbers}
 use Rattle.simplicity.specs.Canon.{Declared, IsCanon}
@@ -37,6 +37,11 @@ MergingKeepsLeast = (ns ms : List Node) (ts us : Typing) (place : ℕ → ℕ) (
 -- what the root of a placed list reaches is a placed list in its order
 abbrev pub GatheringOrders : Type 0
 GatheringOrders = (ns : List Node) → IsPlaced ns → 0 < length ns → IsPlaced (gathered ns) × IsOrdered (gathered ns)
+
+-- a typing of the list gives one of what the root reaches, with the root's arrow
+abbrev pub GatheringIsTyped : Type 0
+GatheringIsTyped = (ns : List Node) (root : Arrow) (ts : Typing) → IsPlaced ns → 0 < length ns → IsTypingAt ns root ts →
+    (us : Typing) × IsTypingAt (gathered ns) root us
 
 -- the places of the nodes of one list come in the order of another: each is one that was there before, or the next number
 abbrev pub ComeInOrder : (ℕ → ℕ) → List Node → List Node → Type 0

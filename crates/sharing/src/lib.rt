@@ -1,7 +1,7 @@
 // Laws of cuts, sharing and order, over the core language: each function below has no body, and its contract is a law.
 #![tactic(auto)]
 
-ghost use Rattle.sharing.specs.Laws.{HidingCuts, HidingIsOne, CutsArePlaced, MergingKeepsLeast, GatheringOrders, MergingOrders, ReorderedIsOne, MergedIsReordered, PrunedIsOne, ReorderingRenumbers, CanonIsOne};
+ghost use Rattle.sharing.specs.Laws.{HidingCuts, HidingIsOne, CutsArePlaced, MergingKeepsLeast, GatheringOrders, GatheringIsTyped, MergingOrders, ReorderedIsOne, MergedIsReordered, PrunedIsOne, ReorderingRenumbers, CanonIsOne};
 
 /// Hiding what a run doesn't visit is a cut.
 pub fn hiding_cuts_law()
@@ -26,6 +26,11 @@ pub fn merging_keeps_least_law()
 /// What the root of a placed list reaches is a placed list in its order.
 pub fn gathering_orders_law()
     ensures { GatheringOrders }
+{}
+
+/// Where a list has a typing, what its root reaches has one with the same arrow.
+pub fn gathering_is_typed_law()
+    ensures { GatheringIsTyped }
 {}
 
 /// Merging an ordered list gives an ordered list where the new places come in its order.
