@@ -4,3 +4,4 @@ mod RunRows
 mod RowMerged
 mod RowCanon
 mod OwnTypes
+mod Ordered

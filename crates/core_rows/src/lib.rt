@@ -9,6 +9,8 @@ mod formulas;
 #[cfg(test)]
 mod jet_names;
 #[cfg(test)]
+mod orders;
+#[cfg(test)]
 mod programs;
 #[cfg(test)]
 mod roots;
