@@ -10,7 +10,7 @@ use crate::refusal::OrderRefusal;
 use crate::tell::tell_apart;
 use indexmap::IndexSet;
 use infer_cells::Typing;
-use std::alloc::{AllocError, Global};
+use std::alloc::Global;
 use term_core::NodeList;
 use type_table::TypeTable;
 
@@ -33,7 +33,7 @@ pub fn check_shared(
     let mut keys = IndexSet::new(alloc);
     for index in 0..nodes.len() {
         let key = NodeKey::new(*nodes.get(index), *typing.get(index), index);
-        let (place, _) = keys.insert_full(key).map_err(AllocError::from)?;
+        let (place, _) = keys.insert_full(key)?;
         if place < index {
             return Err(OrderRefusal::NotShared {
                 first: place,

@@ -3,7 +3,7 @@ use Rattle.share_order.proofs.Told.{bound_of, told, none_told, none_next}
 use Rattle.share_order.proofs.tell.tell_apart.Goals as goal
 
 pub shape-shape-requires : goal.shape-shape-requires
-shape-shape-requires c = (bound_of (length c.args.types.now) c.args.typing.now c.loop-index.index (Some c.in-Some.arrow.now) c.requires (c.get.ensures ∙ ap Some c.in-Some.is)).0
+shape-shape-requires c = (bound_of (length c.args.types.now) c.args.typing.now c.loop-index.index (Some c.in-Some.arrow) c.requires (c.get.ensures ∙ ap Some c.in-Some.is)).0
 
 pub returns-in-Some : goal.returns-in-Some
 returns-in-Some c = told c.args.types.now c.args.typing.now c.shape-shape.ensures.distinct c.requires
