@@ -4,4 +4,3 @@ mod RunRows
 mod RowMerged
 mod RowCanon
 mod OwnTypes
-mod Ordered

@@ -9,8 +9,6 @@ mod formulas;
 #[cfg(test)]
 mod jet_names;
 #[cfg(test)]
-mod orders;
-#[cfg(test)]
 mod programs;
 #[cfg(test)]
 mod roots;

@@ -98,23 +98,23 @@ class_step {A} ns arrows keys more places c n a placed old is has_arrow grows =
           let u = children_under ns i m (follows_at ns i m placed m_is) in
           at_or_before i k (omega arith)
           (λ h.
-              let alike = key_same (place_at places) (place_at (places ++ c ∷ [])) i i m b u (λ j g. same j (omega arith)) in
-              ap (slice_get more) (index_front places c i h)
-              ∙ grown_front keys more (key_for (place_at places) k n a) (key_for (place_at places) i m b) c (place_at places i) grows (old.each i m b h m_is b_is)
-              ∙ ap Some alike)
+          let alike = key_same (place_at places) (place_at (places ++ c ∷ [])) i i m b u (λ j g. same j (omega arith)) in
+          ap (slice_get more) (index_front places c i h)
+          ∙ grown_front keys more (key_for (place_at places) k n a) (key_for (place_at places) i m b) c (place_at places i) grows (old.each i m b h m_is b_is)
+          ∙ ap Some alike)
           (λ e.
-              let alike = key_same (place_at places) (place_at (places ++ c ∷ [])) i i m b u (λ j g. same j (omega arith)) in
-              let m_same : n ≡ m = let p = ap (slice_get ns) e in cc in
-              let b_same : a ≡ b = let p = ap (slice_get arrows) e in cc in
-              let key_is : key_for (place_at places) k n a ≡ key_for (place_at places) i m b =
-                ap (λ (x : Node). key_for (place_at places) k x a) m_same ∙ ap (key_for (place_at places) k m) b_same ∙ ap (λ (x : ℕ). key_for (place_at places) x m b) (sym e) in
-              ap (λ (x : ℕ). slice_get more (place_at (places ++ c ∷ []) x)) e ∙ ap (slice_get more) (index_last places c)
-              ∙ grown_there keys more (key_for (place_at places) k n a) c grows ∙ ap Some (key_is ∙ alike));
+          let alike = key_same (place_at places) (place_at (places ++ c ∷ [])) i i m b u (λ j g. same j (omega arith)) in
+          let m_same : n ≡ m = let p = ap (slice_get ns) e in cc in
+          let b_same : a ≡ b = let p = ap (slice_get arrows) e in cc in
+          let key_is : key_for (place_at places) k n a ≡ key_for (place_at places) i m b =
+          ap (λ (x : Node). key_for (place_at places) k x a) m_same ∙ ap (key_for (place_at places) k m) b_same ∙ ap (λ (x : ℕ). key_for (place_at places) x m b) (sym e) in
+          ap (λ (x : ℕ). slice_get more (place_at (places ++ c ∷ []) x)) e ∙ ap (slice_get more) (index_last places c)
+          ∙ grown_there keys more (key_for (place_at places) k n a) c grows ∙ ap Some (key_is ∙ alike));
       plain = grown_plain keys more (key_for (place_at places) k n a) c grows (λ none. number_plain (renamed (place_at places) n) k none) old.plain;
       in_order =
           let zero_more : 0 + k ≡ k = omega arith in
           let range_is : range_with_len 0 (length (places ++ c ∷ [])) ≡ range_with_len 0 k ++ k ∷ [] =
-            ap (λ (x : ℕ). range_with_len 0 x) count ∙ range_last 0 k ∙ ap (λ (x : ℕ). range_with_len 0 k ++ x ∷ []) zero_more in
+          ap (λ (x : ℕ). range_with_len 0 x) count ∙ range_last 0 k ∙ ap (λ (x : ℕ). range_with_len 0 k ++ x ∷ []) zero_more in
           let f = place_at (places ++ c ∷ []) in
           ap (images f) range_is ∙ images_last f (range_with_len 0 k) k
           ∙ ap (λ (x : ℕ). added x (images f (range_with_len 0 k))) (index_last places c)
@@ -176,11 +176,11 @@ pub classes_shared : (ns : List Node) (ts : Typing) (keys : List (Key (Option Ar
 classes_shared ns ts keys places all once i j l same =
     from_map (λ k. k.node) keys i same.same same.first
     (λ k k_is k_node. from_map (λ k. k.node) keys j same.same same.second
-        (λ m m_is m_node.
-            let k_zero = all.plain i k k_is (λ w. same.plain (sym k_node ∙ w)) in
-            let m_zero = all.plain j m m_is (λ w. same.plain (sym m_node ∙ w)) in
-            let left = get_map (λ (x : Key (Option Arrow)). x.arrow) keys i k k_is in
-            let right = get_map (λ (x : Key (Option Arrow)). x.arrow) keys j m m_is in
-            let arrows : k.arrow ≡ m.arrow = let e = same.arrows in cc in
-            let keys_same : k ≡ m = same_key k m (k_node ∙ sym m_node) arrows (k_zero ∙ sym m_zero) in
-            once i j k l k_is (m_is ∙ ap Some (sym keys_same))))
+    (λ m m_is m_node.
+    let k_zero = all.plain i k k_is (λ w. same.plain (sym k_node ∙ w)) in
+    let m_zero = all.plain j m m_is (λ w. same.plain (sym m_node ∙ w)) in
+    let left = get_map (λ (x : Key (Option Arrow)). x.arrow) keys i k k_is in
+    let right = get_map (λ (x : Key (Option Arrow)). x.arrow) keys j m m_is in
+    let arrows : k.arrow ≡ m.arrow = let e = same.arrows in cc in
+    let keys_same : k ≡ m = same_key k m (k_node ∙ sym m_node) arrows (k_zero ∙ sym m_zero) in
+    once i j k l k_is (m_is ∙ ap Some (sym keys_same))))

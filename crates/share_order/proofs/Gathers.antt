@@ -60,7 +60,7 @@ module _ (ns : List Node) (placed : IsPlaced ns) (full : 0 < length ns) where
       let had : AllHad (take k done) (children n) = subst (AllHad (take k done)) (children_are ns i n n_is) (picked.orderly.after k i i_is) in
       let alike = renamed_alike pos (place_at places) n
       (had_at (take k done) 0 (children n) had (λ c. pos c ≡ place_at places c)
-        (λ c g. let at = place_in_front ns done k c picked g in sym (before.each (pos c) c at.0 at.1))) in
+      (λ c g. let at = place_in_front ns done k c picked g in sym (before.each (pos c) c at.0 at.1))) in
       picked_at pos ns done k i n (picked_within ns done picked) i_is n_is ∙ ap Some alike
 
   pub next_follows : (list : List Node) (k : ℕ) (n : Node) → list ≡ take k (gathered ns) → slice_get (gathered ns) k ≡ Some n → CanFollow list n
@@ -93,10 +93,10 @@ module _ (ns : List Node) (placed : IsPlaced ns) (full : 0 < length ns) where
         at_or_before j k (omega (arith, l))
         (λ m. get_or-set_other places i h k 0 (apart k j i h m i_is h_is) ∙ before.each j h m h_is)
         (λ e.
-            let here : Some h ≡ Some i = sym h_is ∙ ap (slice_get (post_order ns)) e ∙ i_is in
-            let same : h ≡ i = cc in
-            let inside = node_within k i i_is in
-            ap (place_at (set places i k)) same ∙ get_or-set_same places i k 0 (omega (arith, inside, long)) ∙ sym e);
+        let here : Some h ≡ Some i = sym h_is ∙ ap (slice_get (post_order ns)) e ∙ i_is in
+        let same : h ≡ i = cc in
+        let inside = node_within k i i_is in
+        ap (place_at (set places i k)) same ∙ get_or-set_same places i k 0 (omega (arith, inside, long)) ∙ sym e);
   }
 
   pub gather_follows : (k i : ℕ) (n m : Node) (list : List Node) (places : List ℕ) → slice_get (post_order ns) k ≡ Some i → slice_get ns i ≡ Some n →

@@ -140,6 +140,6 @@ pub keys_differ : (keys : List NodeKey) → IsSelfSame keys → AreWide keys →
 keys_differ keys self wide d i j k l e g =
     from_map key_of keys i k e
     (λ x x_is x_same. from_map key_of keys j k g
-        (λ y y_is y_same.
-            let one = keys_alike y x (wide j y y_is) (wide i x x_is) (y_same ∙ sym x_same) in
-            code_keys_differ keys self d i j x l x_is (y_is ∙ ap Some one)))
+    (λ y y_is y_same.
+    let one = keys_alike y x (wide j y y_is) (wide i x x_is) (y_same ∙ sym x_same) in
+    code_keys_differ keys self d i j x l x_is (y_is ∙ ap Some one)))

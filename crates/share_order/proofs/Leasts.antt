@@ -69,12 +69,12 @@ module _ (old new : List ℕ) (k count bound : ℕ) (places : List ℕ) (before 
         at_or_before index k (omega (arith, l))
         (λ m. least_by index from to (before.least index from to m from_is to_is) (cases_eq to p))
         (λ e.
-            let from_same : Some from ≡ Some o = sym from_is ∙ ap (slice_get old) e ∙ o_is in
-            let to_same : Some to ≡ Some p = sym to_is ∙ ap (slice_get new) e ∙ p_is in
-            let f : from ≡ o = cc in
-            let t : to ≡ p = cc in
-            let at : get_or (set places p v) to 0 ≡ v = ap (λ (x : ℕ). get_or (set places p v) x 0) t ∙ here in
-            omega (arith, at, f, v_is));
+        let from_same : Some from ≡ Some o = sym from_is ∙ ap (slice_get old) e ∙ o_is in
+        let to_same : Some to ≡ Some p = sym to_is ∙ ap (slice_get new) e ∙ p_is in
+        let f : from ≡ o = cc in
+        let t : to ≡ p = cc in
+        let at : get_or (set places p v) to 0 ≡ v = ap (λ (x : ℕ). get_or (set places p v) x 0) t ∙ here in
+        omega (arith, at, f, v_is));
   }
 
 went_of : (old new : List ℕ) (k bound to from : ℕ) → (from ≡ bound → ⊥) → SoFar old new k bound to from → Went old new from to

@@ -39,10 +39,10 @@ all_in_place ns placed full all =
     let count = count_is ns done (post_orderly ns (down_of ns placed) full) all (split (length ns) (length done)) in
     same_elements done (range_with_len 0 (length ns)) (count ∙ sym (range_length 0 (length ns)))
     (λ i x h.
-        let l : i < length ns = (let a = within_of done i x h in omega arith) in
-        let here : Some i ≡ Some x = sym (all i l) ∙ h in
-        let e : 0 + i ≡ i = omega arith in
-        range_get 0 (length ns) i l ∙ ap Some e ∙ here)
+    let l : i < length ns = (let a = within_of done i x h in omega arith) in
+    let here : Some i ≡ Some x = sym (all i l) ∙ h in
+    let e : 0 + i ≡ i = omega arith in
+    range_get 0 (length ns) i l ∙ ap Some e ∙ here)
 
 pub full_by : (n : ℕ) → (n ≡ 0 → ⊥) → 0 < n
 full_by zero none = absurd (none refl)

@@ -31,12 +31,12 @@ module _ {A : Type 0} (ns : List Node) (arrows : List A) (placed : IsPlaced ns) 
       let follows = follows_at ns k n placed is in
       follow_along (place_at places) (take k ns) (nodes_in keys) n
       (all_below (λ c. (m : Node) → slice_get (take k ns) c ≡ Some m → slice_get (nodes_in keys) (place_at places c) ≡ Some (renamed (place_at places) m))
-        k (children n) (children_under ns k n follows)
-        (λ c l m e.
-            let there = (get_of_take ns k c m e).0 in
-            let inside = all.within in
-            let a = there_at arrows c (omega (arith, long, inside, l)) in
-            get_map (λ (x : Key A). x.node) keys (place_at places c) (key_for (place_at places) c m a.0) (all.each c m a.0 l there a.1)))
+      k (children n) (children_under ns k n follows)
+      (λ c l m e.
+      let there = (get_of_take ns k c m e).0 in
+      let inside = all.within in
+      let a = there_at arrows c (omega (arith, long, inside, l)) in
+      get_map (λ (x : Key A). x.node) keys (place_at places c) (key_for (place_at places) c m a.0) (all.each c m a.0 l there a.1)))
       follows
 
   pub placed_step : (keys : List (Key A)) (places : List ℕ) (c : ℕ) (n : Node) (a : A) (more : List (Key A)) → Classes A ns arrows keys places → slice_get ns (length places) ≡ Some n →

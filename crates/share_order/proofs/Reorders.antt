@@ -93,6 +93,6 @@ pub light_along : (ns ms : List Node) (ts us : Typing) (f : ℕ → ℕ) (most :
 light_along ns ms ts us f most merged long more onto light =
     light_by most us
     (λ k e is.
-        let inside = within_of us k e is in
-        let from = onto k (omega (arith, inside, more)) in
-        light_entry most ts from.0 e light (sym (merged.arrows from.0 from.1) ∙ ap (slice_get us) from.2 ∙ is))
+    let inside = within_of us k e is in
+    let from = onto k (omega (arith, inside, more)) in
+    light_entry most ts from.0 e light (sym (merged.arrows from.0 from.1) ∙ ap (slice_get us) from.2 ∙ is))

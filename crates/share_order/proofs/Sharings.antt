@@ -44,12 +44,12 @@ own_next ns ids k c keys n a _ own n_is a_is (New e) l =
           at_or_before i k (omega (arith, h))
           (λ g. grown_front keys (keys ++ own_key k n a ∷ []) (own_key k n a) (own_key i m b) c i grows (own.each i m b g m_is b_is))
           (λ g.
-              let node_same : Some n ≡ Some m = sym n_is ∙ ap (slice_get ns) (sym g) ∙ m_is in
-              let arrow_same : Some a ≡ Some b = sym a_is ∙ ap (slice_get ids) (sym g) ∙ b_is in
-              let p : n ≡ m = cc in
-              let q : a ≡ b = cc in
-              ap (slice_get (keys ++ own_key k n a ∷ [])) (g ∙ sym at) ∙ grown_there keys (keys ++ own_key k n a ∷ []) (own_key k n a) c grows
-              ∙ ap (λ (x : Node). Some (own_key k x a)) p ∙ ap (λ (x : Option NodeArrow). Some (own_key k m x)) q ∙ ap (λ (x : ℕ). Some (own_key x m b)) (sym g));
+          let node_same : Some n ≡ Some m = sym n_is ∙ ap (slice_get ns) (sym g) ∙ m_is in
+          let arrow_same : Some a ≡ Some b = sym a_is ∙ ap (slice_get ids) (sym g) ∙ b_is in
+          let p : n ≡ m = cc in
+          let q : a ≡ b = cc in
+          ap (slice_get (keys ++ own_key k n a ∷ [])) (g ∙ sym at) ∙ grown_there keys (keys ++ own_key k n a ∷ []) (own_key k n a) c grows
+          ∙ ap (λ (x : Node). Some (own_key k x a)) p ∙ ap (λ (x : Option NodeArrow). Some (own_key k m x)) q ∙ ap (λ (x : ℕ). Some (own_key x m b)) (sym g));
     }
 
 module _ (kinds : List Kind) (ns : List Node) (ids : Ids) (long : length ids ≡ length ns) (told : AreTold kinds ids) where
@@ -78,8 +78,8 @@ module _ (kinds : List Kind) (ns : List Node) (ids : Ids) (long : length ids ≡
       let key_i = own.each i same.same a.0 (omega (arith, l, below)) same.first a.1 in
       let key_j = own.each j same.same b.0 l same.second b.1 in
       let keys_same : own_key j same.same b.0 ≡ own_key i same.same a.0 =
-        ap (λ (x : Option NodeArrow). record { node = same.same; arrow = x; number = number_for same.same j }) (sym one)
-        ∙ ap (λ (x : ℕ). record { node = same.same; arrow = a.0; number = x }) (zero_j ∙ sym zero_i) in
+      ap (λ (x : Option NodeArrow). record { node = same.same; arrow = x; number = number_for same.same j }) (sym one)
+      ∙ ap (λ (x : ℕ). record { node = same.same; arrow = a.0; number = x }) (zero_j ∙ sym zero_i) in
       differ i j (own_key i same.same a.0) below key_i (key_j ∙ ap Some keys_same)
 
   pub all_apart : (k : ℕ) (keys : List IdKey) → length ns ≤ k → OwnKeys ns ids k keys → KeysDiffer keys → IsShared ns ts
@@ -114,7 +114,7 @@ module _ (kinds : List Kind) (ns : List Node) (ids : Ids) (long : length ids ≡
           arrows = get_map (arrow_in kinds) ids c b.0 b.1 ∙ ap (λ (x : Option NodeArrow). Some (arrow_in kinds x)) arrows ∙ sym (get_map (arrow_in kinds) ids k a a_is);
           plain = λ w.
               let both : number_for node.Witness c ≡ number_for node.Witness k =
-                ap (λ (x : Node). number_for x c) (sym (nodes ∙ w)) ∙ numbers ∙ ap (λ (x : Node). number_for x k) w in
+              ap (λ (x : Node). number_for x c) (sym (nodes ∙ w)) ∙ numbers ∙ ap (λ (x : Node). number_for x k) w in
               absurd (omega (arith, both, l));
         };
         second_least = λ i j below same. not_before k j (λ g. none_equal k i j keys own differ g below same) (split j k);
@@ -127,8 +127,8 @@ module _ (kinds : List Kind) (ns : List Node) (ids : Ids) (long : length ids ≡
             let zero_k = number_plain same.same k same.plain in
             let key_i = own.each i same.same d.0 g same.first d.1 in
             let keys_are : own_key i same.same d.0 ≡ own_key k n a =
-              ap (λ (x : Option NodeArrow). record { node = same.same; arrow = x; number = number_for same.same i }) one_id
-              ∙ ap (λ (x : ℕ). record { node = same.same; arrow = a; number = x }) (zero_i ∙ sym zero_k)
-              ∙ ap (λ (x : Node). own_key k x a) (sym node_is) in
+            ap (λ (x : Option NodeArrow). record { node = same.same; arrow = x; number = number_for same.same i }) one_id
+            ∙ ap (λ (x : ℕ). record { node = same.same; arrow = a; number = x }) (zero_i ∙ sym zero_k)
+            ∙ ap (λ (x : Node). own_key k x a) (sym node_is) in
             not_before c i (λ p. differ i c (own_key k n a) p (key_i ∙ ap Some keys_are) h) (split i c);
       }

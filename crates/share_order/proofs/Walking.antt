@@ -41,7 +41,7 @@ pub entered : (ns : List Node) (xs steps : List Step) (i : ℕ) (n : Node) (done
     steps ≡ (xs ++ step.Leave i ∷ []) ++ entries (children n) → after ns steps done ≡ after ns xs (ends ns i done)
 entered ns xs steps i n done placed is new e =
     let step_is : ends ns i done ≡ over (ends ns) (children_at ns i) done ++ i ∷ [] =
-      ends_step ns (down_of ns placed) i done ∙ unless_new (has i done) i (over (ends ns) (children_at ns i)) done new in
+    ends_step ns (down_of ns placed) i done ∙ unless_new (has i done) i (over (ends ns) (children_at ns i)) done new in
     ap (λ (l : List Step). after ns l done) e ∙ after_entries ns (xs ++ step.Leave i ∷ []) (children n) done
     ∙ after_last ns xs (step.Leave i) (over (ends ns) (children n) done)
     ∙ ap (λ (cs : List ℕ). after ns xs (over (ends ns) cs done ++ i ∷ [])) (sym (children_are ns i n is)) ∙ ap (after ns xs) (sym step_is)
@@ -113,7 +113,7 @@ pub entered_within : (ns : List Node) (xs steps : List Step) (i : ℕ) (n : Node
 entered_within ns xs steps i n placed is l h e =
     subst (AreWithin (length ns)) (sym e)
     (within_append (length ns) (xs ++ step.Leave i ∷ []) (entries (children n)) (within_append (length ns) xs (step.Leave i ∷ []) h (l, tt))
-      (within_entries (length ns) i (children n) l (children_under ns i n (follows_at ns i n placed is))))
+    (within_entries (length ns) i (children n) l (children_under ns i n (follows_at ns i n placed is))))
 
 -- marks
 mark_by : (n i j : ℕ) (marks : List Bool) (done : List ℕ) (b : Bool) → nat_eq j i ≡ b → Marks n marks done → i < n → j < n → get_or (set marks i true) j false ≡ has j (done ++ i ∷ [])

@@ -76,7 +76,8 @@ module _ (ns : List Node) (placed : IsPlaced ns) (root : HasRoot ns) (list : Lis
         let f = place_at news in
         let g_placed = gathered_placed ns placed root.1 in
         let g_full = gathered_full ns placed root.1 in
-        let ordered = merged_ordered (gathered ns) ms ts us f g_placed g_merged.placed g_full g_merged.merged (gathered_ordered ns placed root.1) g_merged.in_order in
-        (whole.canonical.least.typing.typed,
+        let ordered = merged_ordered (gathered ns) ms ts us f g_placed g_merged.placed g_full g_merged.merged (gathered_ordered ns placed root.1) g_merged.in_order in (
+          whole.canonical.least.typing.typed,
           light_along (gathered ns) ms ts us f most_weight g_merged.merged (typing_length ts (gathered ns) ts typed) g_merged.count
-          (merged_onto (gathered ns) ms ts us f g_placed g_merged.placed g_full g_merged.merged ordered) light.1)
+              (merged_onto (gathered ns) ms ts us f g_placed g_merged.placed g_full g_merged.merged ordered) light.1,
+        )

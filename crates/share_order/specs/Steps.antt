@@ -2,7 +2,6 @@
 use Rattle.std.specs.Prelude.{◌≡◌, ℕ, zero, suc, ◌+◌, ◌*◌, ◌<◌, Bool, false, get_or, List, [], ◌∷◌, ◌++◌, length}
 use Rattle.simplicity.specs.Nodes.{Node}
 use Rattle.simplicity.specs.Order.{has, ended}
-
 use Rattle.share_order.specs.declared.walk.Step.{Step}
 use Rattle.share_order.specs.declared.walk.Step.TheVariants as step
 

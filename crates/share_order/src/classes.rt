@@ -44,7 +44,12 @@ pub(crate) fn classes(
     let mut keys = IndexSet::new(alloc);
     let mut places = Vec::new(alloc);
     for index in 0..nodes.len() {
-        let key = node_key(nodes.get(index), *typing.get(index), index, places.as_slice());
+        let key = node_key(
+            nodes.get(index),
+            *typing.get(index),
+            index,
+            places.as_slice(),
+        );
         let (class, _) = keys.insert_full(key)?;
         places.push(class)?;
     }

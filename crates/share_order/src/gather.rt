@@ -9,7 +9,11 @@ use std::alloc::{AllocError, Global};
 use term_core::NodeList;
 
 /// The nodes that the root reaches, in their order.
-pub(crate) fn gather(alloc: Global, nodes: &NodeList, order: &[usize]) -> Result<NodeList, AllocError>
+pub(crate) fn gather(
+    alloc: Global,
+    nodes: &NodeList,
+    order: &[usize],
+) -> Result<NodeList, AllocError>
     requires full { 0 < length nodes.now }
     requires order { order.now ≡ spec.post_order nodes.now }
     ensures { IfOk result (λ list. list ≡ gathered nodes.now) }

@@ -72,7 +72,10 @@ fn enter_children(node: &ListNode, steps: &mut Vec<Step>) -> Result<(), AllocErr
     ensures { OnOk result (steps.new.items ≡ steps.old.items ++ entries (children (node_of node.now))) }
 {
     match node {
-        ListNode::Injl(child) | ListNode::Injr(child) | ListNode::Take(child) | ListNode::Drop(child) => {
+        ListNode::Injl(child)
+        | ListNode::Injr(child)
+        | ListNode::Take(child)
+        | ListNode::Drop(child) => {
             steps.push(Step::Enter(*child))?;
         }
         ListNode::Comp(left, right) | ListNode::Case(left, right) | ListNode::Pair(left, right) => {

@@ -79,14 +79,17 @@ module _ (ns : List Node) (root : Arrow) (ts : Typing) (placed : IsPlaced ns) (f
       entry_back k old entries ts n e (λ j l d h. entry j d (omega (arith, l, inside)) h) under whole
 
   gathered_typing : (us : Typing) × IsTypingAt (gathered ns) root us
-  gathered_typing = (entries, record {
-    typed = meets_by entries (gathered ns) entries (sym (pulled_length old ts 0 (length (gathered ns)))) each;
-    rooted =
-        let last = root_place ns placed full in
-        let some = last.1 in
-        let at : old (length (gathered ns) - 1) ≡ length ns - 1 = ap (λ (x : ℕ). old (x - 1)) count ∙ old_is (length done - 1) (length ns - 1) last.0 in
-        entry (length (gathered ns) - 1) (Some root) (omega (arith, count, some)) (ap (slice_get ts) at ∙ typed.rooted);
-  })
+  gathered_typing = (
+    entries,
+    record {
+      typed = meets_by entries (gathered ns) entries (sym (pulled_length old ts 0 (length (gathered ns)))) each;
+      rooted =
+          let last = root_place ns placed full in
+          let some = last.1 in
+          let at : old (length (gathered ns) - 1) ≡ length ns - 1 = ap (λ (x : ℕ). old (x - 1)) count ∙ old_is (length done - 1) (length ns - 1) last.0 in
+          entry (length (gathered ns) - 1) (Some root) (omega (arith, count, some)) (ap (slice_get ts) at ∙ typed.rooted);
+    },
+  )
 
 pub gathering_is_typed : GatheringIsTyped
 gathering_is_typed ns root ts placed full typed = gathered_typing ns root ts placed full typed

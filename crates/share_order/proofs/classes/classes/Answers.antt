@@ -31,7 +31,7 @@ loop-index-preserved c =
     let n = node_of c.get.result.now in
     let a = c.get-in-loop-index.result.now in
     let key_is = c.node_key-key.ensures.key ∙ ap (λ (ps : List ℕ). key_for (place_at ps) c.loop-index.index n a) c.as_slice.ensures.value
-      ∙ ap (λ (i : ℕ). key_for (place_at places) i n a) (sym count) in
+    ∙ ap (λ (i : ℕ). key_for (place_at places) i n a) (sym count) in
     let grown_key = subst (λ (k : Key (Option NodeArrow)). Grows (keys_of keys) k class (keys_of more)) key_is grown in
     let n_is = ap (slice_get c.args.nodes.now) count ∙ c.get.ensures in
     let a_is = ap (slice_get c.args.typing.now) count ∙ c.get-in-loop-index.ensures in

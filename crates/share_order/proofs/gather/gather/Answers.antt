@@ -36,7 +36,7 @@ push-requires c =
 pub index_mut-requires : goal.index_mut-requires
 index_mut-requires c =
     let inside = node_within c.args.nodes.now c.as_slice-placed.ensures.placed c.requires.full c.loop-index.index (get_or c.args.order.now c.loop-index.index 0)
-      (ordered_at c.args.order.now (post_order c.args.nodes.now) c.loop-index.index c.requires.order c.loop-index-test.true) in
+    (ordered_at c.args.order.now (post_order c.args.nodes.now) c.loop-index.index c.requires.order c.loop-index-test.true) in
     omega (arith, inside, c.loop-index.invariant.count, c.loop-index.places.ok.0)
 
 pub loop-index-preserved : goal.loop-index-preserved

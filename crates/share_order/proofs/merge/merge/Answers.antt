@@ -15,7 +15,7 @@ returns-clause-merged c =
     let keys = keys_of c.in_ok-classes.classes.keys.keys in
     let places = c.in_ok-classes.classes.places.items in
     let whole = classes_in_order kinds ns ids keys places c.in_ok-classes.ensures.classes c.in_ok-classes.ensures.all c.requires.count c.as_slice-placed.ensures.placed c.requires.full
-      c.requires.ordered c.tell_apart.ensures c.in_ok-classes.ensures.differ c.in_ok-classes.ensures.placed in
+    c.requires.ordered c.tell_apart.ensures c.in_ok-classes.ensures.differ c.in_ok-classes.ensures.placed in
     subst (λ (us : List (Option NodeArrow)). IsMergedInOrder ns (typing_in kinds ids) c.in_ok-nodes.nodes (typing_in kinds us) (place_at places)) (sym c.in_ok-typing.ensures)
     (subst (λ (ms : List Node). IsMergedInOrder ns (typing_in kinds ids) ms (typing_in kinds (arrows_in keys)) (place_at places)) (sym c.in_ok-nodes.ensures) whole)
 
@@ -24,4 +24,4 @@ returns-clause-there c =
     let keys = keys_of c.in_ok-classes.classes.keys.keys in
     subst (AreBelowBound (length c.args.types.now)) (sym c.in_ok-typing.ensures)
     (arrows_bound c.args.types.now c.args.nodes.now c.args.typing.now keys c.in_ok-classes.classes.places.items c.in_ok-classes.ensures.classes c.in_ok-classes.ensures.all c.requires.count
-      (length c.args.types.now) c.requires.there)
+    (length c.args.types.now) c.requires.there)

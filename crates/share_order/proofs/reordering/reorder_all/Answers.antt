@@ -77,7 +77,7 @@ returns-clause-reordered c =
     let arrow = arrow_between c.args.types.now c.args.source c.args.target in
     let least = subst (λ (n : ℕ). AreLeast order news n c.in_ok-places.places.items) c.len.ensures c.in_ok-places.ensures in
     let whole = reordered_whole c.args.nodes.now c.as_slice-placed.ensures.placed c.requires.rooted c.in_ok-list.list c.in_ok-list.ensures order order_is c.in_ok-merged.merged.nodes ts us news merged count arrow
-      c.in_ok-places.places.items c.in-Ok.ensures.least least in
+    c.in_ok-places.places.items c.in-Ok.ensures.least least in
     subst (λ (ps : List ℕ). IsReordered c.args.nodes.now arrow c.in_ok-merged.merged.nodes us ps) (sym c.from_numbers.ensures) whole
 
 pub returns-clause-light : goal.returns-clause-light
@@ -92,6 +92,6 @@ returns-clause-light c =
     let arrow = arrow_between c.args.types.now c.args.source c.args.target in
     let least = subst (λ (n : ℕ). AreLeast order news n c.in_ok-places.places.items) c.len.ensures c.in_ok-places.ensures in
     let whole = reordered_whole c.args.nodes.now c.as_slice-placed.ensures.placed c.requires.rooted c.in_ok-list.list c.in_ok-list.ensures order order_is c.in_ok-merged.merged.nodes ts us news merged count arrow
-      c.in_ok-places.places.items c.in-Ok.ensures.least least in
+    c.in_ok-places.places.items c.in-Ok.ensures.least least in
     light_whole c.args.nodes.now c.as_slice-placed.ensures.placed c.requires.rooted c.in_ok-list.list c.in_ok-list.ensures order order_is c.in_ok-merged.merged.nodes ts us news merged count arrow
     c.in_ok-places.places.items whole c.in-Ok.ensures.light
