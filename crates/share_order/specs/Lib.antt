@@ -1,0 +1,6 @@
+pub mod Steps
+pub mod Keys
+pub mod Merged
+pub mod Told
+pub mod Least
+pub mod Refusals
