@@ -1,1 +1,3 @@
 pub mod Bits
+mod Reading
+mod Answered

@@ -1,0 +1,5 @@
+pub mod Reading
+pub mod Laws
+pub mod Places
+pub mod Stops
+pub mod Parts
