@@ -1,3 +1,3 @@
 pub mod Bits
-mod Reading
-mod Answered
+pub mod Reading
+pub mod Answered

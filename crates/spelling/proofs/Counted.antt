@@ -61,7 +61,7 @@ of_word i at all bits h = of_then all (read_level i at bits) (λ k at' bits'. th
 of_carried : (n at all : ℕ) (make : List ℕ → Node) (bits : List Bool) → at + length bits ≡ all → IsOf all (carried n make at bits)
 of_carried n at all make bits h = of_then all (read_bytes n at bits) (λ bs. give (make bs)) (of_bytes n at all bits h) (λ bs at' mid g. g)
 
-of_node : (i at all : ℕ) (bits : List Bool) → at + length bits ≡ all → IsOf all (read_node i at bits)
+pub of_node : (i at all : ℕ) (bits : List Bool) → at + length bits ≡ all → IsOf all (read_node i at bits)
 of_node i at all (false ∷ false ∷ false ∷ false ∷ false ∷ bits) h = of_two i (at + 5) all node.Comp bits (omega arith)
 of_node i at all (false ∷ false ∷ false ∷ false ∷ true ∷ bits) h = of_two i (at + 5) all node.Case bits (omega arith)
 of_node i at all (false ∷ false ∷ false ∷ true ∷ false ∷ bits) h = of_two i (at + 5) all node.Pair bits (omega arith)

@@ -8,3 +8,6 @@ pub mod Rows
 pub mod Counted
 pub mod Stopped
 pub mod Parts
+pub mod Values
+pub mod Named
+pub mod NamedNodes

@@ -142,7 +142,7 @@ word_gets i k n at rest h g =
           (then_gets (number (2 ^ k) mid bits) (λ m. give (node.Word k m)) n (mid + 2 ^ k) rest (Got (node.Word k n) (mid + 2 ^ k) rest) (number_gets (2 ^ k) n mid rest g) refl),
     )
 
-level_only : (i k at end : ℕ) (bits rest : List Bool) → read_level i at bits ≡ Got k end rest → (k ≤ 8) × (bits ≡ natural (k + 1) ++ rest)
+pub level_only : (i k at end : ℕ) (bits rest : List Bool) → read_level i at bits ≡ Got k end rest → (k ≤ 8) × (bits ≡ natural (k + 1) ++ rest)
 level_only i k at end bits rest e =
     let got = then_got (read_natural at bits) (λ d. give_if (nat_le (d - 1) 8) (WordTooWide i) (d - 1)) k end rest e in
     let d : ℕ = got.0 in

@@ -14,7 +14,7 @@ pub then_same : {A B : Type 0} (r : Read A) (f g : A → Reading B) → ((a : A)
 then_same (Got a at bits) f g e = e a at bits
 then_same (Refused r) f g e = refl
 
-then_give : {A : Type 0} (r : Read A) → then r give ≡ r
+pub then_give : {A : Type 0} (r : Read A) → then r give ≡ r
 then_give (Got a at bits) = refl
 then_give (Refused r) = refl
 

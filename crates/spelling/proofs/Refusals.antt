@@ -13,7 +13,7 @@ pub then_refused : {A B : Type 0} (r : Read A) (f : A → Reading B) (no_more : 
 then_refused (Got a at mid) f n e = inr (a, at, mid, refl, e)
 then_refused (Refused r) f n e = inl (cc)
 
-number_refused : (n at : ℕ) (bits : List Bool) (r : Refusal) → number n at bits ≡ Refused r → r ≡ EndOfBits (at + length bits)
+pub number_refused : (n at : ℕ) (bits : List Bool) (r : Refusal) → number n at bits ≡ Refused r → r ≡ EndOfBits (at + length bits)
 number_refused zero at bits r e = absurd (cc)
 number_refused (suc n) at [] r e =
     let same : EndOfBits at ≡ r = cc in
@@ -24,7 +24,7 @@ number_refused (suc n) at (b ∷ bits) r e =
       | inr g ↦ (let clash : Got (cond b (2 ^ n) 0 + g.0) g.1 g.2 ≡ Refused r = g.4 in absurd (cc))
     ]
 
-power_refused_by : (start n at : ℕ) (bits : List Bool) (r : Refusal) (t : Bool) → nat_lt n 32 ≡ t →
+pub power_refused_by : (start n at : ℕ) (bits : List Bool) (r : Refusal) (t : Bool) → nat_lt n 32 ≡ t →
     then (give_if t (NaturalTooLarge start) n at bits) (λ n' at' bits'. then (number n' at' bits') (λ m. give (2 ^ n' + m))) ≡ Refused r →
     (r ≡ EndOfBits (at + length bits)) ⊎ ((r ≡ NaturalTooLarge start) × (32 ≤ n))
 power_refused_by start n at bits r true is e =

@@ -3,3 +3,5 @@ pub mod Laws
 pub mod Places
 pub mod Stops
 pub mod Parts
+pub mod Values
+pub mod Refusals

@@ -3,6 +3,8 @@
 
 ghost use Rattle.spelling.specs.Stops.{NodesStop};
 ghost use Rattle.spelling.specs.Places.{PlacesCount};
+ghost use Rattle.spelling.specs.Refusals.{RefusalsAreNamed};
+ghost use Rattle.spelling.specs.Values.{ValuesAreRead, ValuesAreRefused};
 ghost use Rattle.spelling.specs.Laws.{NaturalsAreRead, NaturalsAreRefused, NaturalsArePrefixFree, NaturalsHaveParts, ProgramsAreRead};
 
 /// A natural is read exactly where its bits stand, and no bit more.
@@ -39,4 +41,19 @@ pub fn places_count_law()
 /// Nodes are refused only after fewer nodes that stand in the bits, fit and are placed.
 pub fn nodes_stop_law()
     ensures { NodesStop }
+{}
+
+/// A value of a type is read exactly where its compact code stands, and no bit more.
+pub fn values_are_read_law()
+    ensures { ValuesAreRead }
+{}
+
+/// A value is refused exactly where the bits end inside one, at their number.
+pub fn values_are_refused_law()
+    ensures { ValuesAreRefused }
+{}
+
+/// A natural and a node are refused, while they are read, exactly as their fields say.
+pub fn refusals_are_named_law()
+    ensures { RefusalsAreNamed }
 {}
