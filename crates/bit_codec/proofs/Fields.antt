@@ -1,10 +1,18 @@
 -- The fields of a node, as the code reads them, and the node that they are.
-use Rattle.std.proofs.Common.{◌≡◌, refl, ap, sym, subst, ◌∙◌, ℕ, zero, suc, ◌+◌, ◌-◌, ◌*◌, ◌/◌, ◌%◌, ◌^◌, ◌<◌, ◌≤◌, Bool, true, false, cond, nat_lt, nat_le, List, [], ◌∷◌, ◌++◌, length, Result, Ok, Err, arith, lt-ltb, le-leb, leb-true, append_assoc, add-mul}
+use Rattle.std.proofs.Common.{◌≡◌, refl, ap, sym, subst, ◌∙◌, ℕ, zero, suc, ◌+◌, ◌-◌, ◌*◌, ◌/◌, ◌%◌, ◌^◌, ◌<◌, ◌≤◌, Bool, true, false, cond, nat_lt, nat_le, List, [], ◌∷◌, ◌++◌, length, Result, Ok, Err, take, set, length-set, arith, lt-ltb, le-leb, leb-true, append_assoc, add-mul}
 use Rattle.std.proofs.lemmas.Nat.{pow-add}
+use Rattle.std.proofs.Math.Nat.{pow-succ'}
+use Rattle.std.proofs.Math.Pow.{pow_mono}
+use Rattle.std.specs.Int.{from_bool}
+use Rattle.std.specs.Result.{IsErr, IsErrAnd}
+use Rattle.std.proofs.lemmas.List.{take_more_set}
 use Rattle.simplicity.specs.Nodes as node
 use Rattle.simplicity.specs.Nodes.{Node}
 use Rattle.spelling.specs.Reading as reading
 use Rattle.spelling.specs.Reading.{Read, Got, Refused, Refusal, EndOfBits, JetCode, Disconnect, Reserved, BadDistance, WordTooWide, Reading, then, give, give_if, one_bit, number, read_natural, read_bytes, read_child, one_child, two_children, read_level, read_word, carried, read_node}
+use Rattle.jets.specs.Unsigned.{Unsigned, IsUnsigned, is_width}
+use Rattle.simplicity.specs.Widths.{level_of}
+use Rattle.spelling.proofs.Numbers.{number_only}
 use Rattle.spelling.proofs.Basics.{got_apart}
 use Rattle.spelling.proofs.Parts.{then_then, then_same, then_give}
 use Rattle.cell_bits.specs.Places.{Place, rest}
@@ -94,14 +102,14 @@ others_there i at mid end b bits more rest' e f =
 
 -- the code of a node with children
 abbrev pub parent : ℕ → ℕ → ℕ → Reading Node
-parent i start 0 at bits = two_children i node.Comp at bits
-parent i start 1 at bits = two_children i node.Case at bits
-parent i start 2 at bits = two_children i node.Pair at bits
-parent i start 3 at bits = Refused (Disconnect start)
-parent i start 4 at bits = one_child i node.Injl at bits
-parent i start 5 at bits = one_child i node.Injr at bits
-parent i start 6 at bits = one_child i node.Take at bits
-parent i start _ at bits = one_child i node.Drop at bits
+parent i start zero at bits = two_children i node.Comp at bits
+parent i start (suc zero) at bits = two_children i node.Case at bits
+parent i start (suc (suc zero)) at bits = two_children i node.Pair at bits
+parent i start (suc (suc (suc zero))) at bits = Refused (Disconnect start)
+parent i start (suc (suc (suc (suc zero)))) at bits = one_child i node.Injl at bits
+parent i start (suc (suc (suc (suc (suc zero))))) at bits = one_child i node.Injr at bits
+parent i start (suc (suc (suc (suc (suc (suc zero)))))) at bits = one_child i node.Take at bits
+parent i start (suc (suc (suc (suc (suc (suc (suc more))))))) at bits = one_child i node.Drop at bits
 
 moved : (f : ℕ → Reading Node) (c d at end : ℕ) (us vs : List Bool) → c ≡ d → at ≡ end → us ≡ vs → f c at us ≡ f d end vs
 moved f c d at end us vs e g h = ap (λ k. f k at us) e ∙ ap (λ k. f d k us) g ∙ ap (λ l. f d end l) h
@@ -151,10 +159,10 @@ parent_ends i start at (x ∷ y ∷ z ∷ bits) r is e = absurd (cc)
 
 -- the code of a node without children
 abbrev pub leaf : ℕ → ℕ → Reading Node
-leaf start 0 at bits = Got node.Iden at bits
-leaf start 1 at bits = Got node.UnitNode at bits
-leaf start 2 at bits = carried 64 node.Fail at bits
-leaf start _ at bits = Refused (Reserved start)
+leaf start zero at bits = Got node.Iden at bits
+leaf start (suc zero) at bits = Got node.UnitNode at bits
+leaf start (suc (suc zero)) at bits = carried 64 node.Fail at bits
+leaf start (suc (suc (suc more))) at bits = Refused (Reserved start)
 
 pub leaf_there : (i start at mid c end : ℕ) (bits more rest' : List Bool) → at ≡ start + 2 → one_bit at bits ≡ Got false mid more → number 2 mid more ≡ Got c end rest' →
     Behind (read_node i) start (false ∷ true ∷ []) at bits ≡ leaf start c end rest'
@@ -291,3 +299,136 @@ number_split (suc a) b at (x ∷ bits) =
     ∙ then_same (number b at' bits') (λ l. give (cond x (2 ^ (a + b)) 0 + (h * 2 ^ b + l))) (λ l. give ((cond x (2 ^ a) 0 + h) * 2 ^ b + l))
     (λ l at'' bits''. ap (λ k. Got k at'' bits'') (joined x (2 ^ a) (2 ^ b) (2 ^ (a + b)) h l (pow-add 2 a b))))
     ∙ sym (then_then (number a (suc at) bits) (λ m. give (cond x (2 ^ a) 0 + m)) (λ h at' bits'. then (number b at' bits') (λ l. give (h * 2 ^ b + l))))
+
+-- room for one digit more
+pub half_room : (width left half : ℕ) → half < 2 ^ (width - left) → 1 ≤ left → left ≤ width → width ≤ 128 → half * 2 + 1 < 2 ^ 128
+half_room width left half h some near most =
+    let up : suc (width - left) ≤ 128 = omega arith in
+    let limit : 2 ^ suc (width - left) ≤ 2 ^ 128 = pow_mono up in
+    let double : 2 ^ suc (width - left) ≡ 2 * 2 ^ (width - left) = pow-succ' 2 (width - left) in
+    omega (arith, h, limit, double)
+
+pub bit_below : (b : Bool) → from_bool b < 2
+bit_below true = omega arith
+bit_below false = omega arith
+
+-- a `?` that ends a function: a reader's refusal, or one of the program
+pub err_bits : {X A : Type 0} (view : X → A) (reading : Reading A) (result : Result X CodecRefusal) (old new : Place) (b : BitRefusal) →
+    IsErr result × IsErrAnd result (λ e. e ≡ of_bits b) → reading old.at (rest old) ≡ Refused (place.cause b) → Gives view reading result old new
+err_bits view reading (Ok x) old new b h e = absurd (cc)
+err_bits view reading (Err c) old new b h e = subst (λ d. Refuses d (reading old.at (rest old))) (sym h.1) (refuses_bits (reading old.at (rest old)) b e)
+
+pub err_codec : {X A : Type 0} (view : X → A) (reading : Reading A) (result : Result X CodecRefusal) (old new : Place) (d : CodecRefusal) →
+    IsErr result × IsErrAnd result (λ e. e ≡ d) → Refuses d (reading old.at (rest old)) → Gives view reading result old new
+err_codec view reading (Ok x) old new d h e = absurd (cc)
+err_codec view reading (Err c) old new d h e = subst (λ k. Refuses k (reading old.at (rest old))) (sym h.1) e
+
+-- a byte more, in a loop
+pub fill_more : (n place b : ℕ) (bytes : List ℕ) (old mid new : Place) → place < n →
+    (read_bytes n old.at (rest old) ≡ bytes_from (take place bytes) (n - place) mid.at (rest mid)) × (mid.bits ≡ old.bits) × (length bytes ≡ n) →
+    number 8 mid.at (rest mid) ≡ Got b new.at (rest new) → new.bits ≡ mid.bits →
+    (read_bytes n old.at (rest old) ≡ bytes_from (take (place + 1) (set bytes place b)) (n - (place + 1)) new.at (rest new)) × (new.bits ≡ old.bits) × (length (set bytes place b) ≡ n)
+fill_more n place b bytes old mid new near h e same =
+    let left : n - place ≡ suc (n - (place + 1)) = omega arith in (
+      h.0 ∙ ap (λ k. bytes_from (take place bytes) k mid.at (rest mid)) left ∙ byte_more (take place bytes) (n - (place + 1)) b mid.at new.at (rest mid) (rest new) e
+          ∙ ap (λ l. bytes_from l (n - (place + 1)) new.at (rest new)) (sym (take_more_set bytes place b (omega (arith, near, h.2)))),
+      same ∙ h.1,
+      length-set bytes place b ∙ h.2,
+    )
+
+pub fill_ends : (n place : ℕ) (bytes : List ℕ) (old mid : Place) (r : Refusal) → place < n →
+    read_bytes n old.at (rest old) ≡ bytes_from (take place bytes) (n - place) mid.at (rest mid) → number 8 mid.at (rest mid) ≡ Refused r → read_bytes n old.at (rest old) ≡ Refused r
+fill_ends n place bytes old mid r near h e =
+    let left : n - place ≡ suc (n - (place + 1)) = omega arith in
+    h ∙ ap (λ k. bytes_from (take place bytes) k mid.at (rest mid)) left ∙ byte_ends (take place bytes) (n - (place + 1)) mid.at (rest mid) r e
+
+-- two parts of a number
+pub split_low : (w at end : ℕ) (h : ℕ) (bits more : List Bool) → 128 ≤ w → number (w - 128) at bits ≡ Got h end more →
+    number w at bits ≡ then (number 128 end more) (λ l. give (h * 2 ^ 128 + l))
+split_low w at end h bits more wide e =
+    let whole : w ≡ (w - 128) + 128 = omega arith in
+    ap (λ k. number k at bits) whole ∙ number_split (w - 128) 128 at bits ∙ ap (λ r. then r (λ h' at' bits'. then (number 128 at' bits') (λ l. give (h' * 2 ^ 128 + l)))) e
+
+pub split_ends : (w at : ℕ) (bits : List Bool) (e : CodecRefusal) → 128 ≤ w → Refuses e (number (w - 128) at bits) → Refuses e (number w at bits)
+split_ends w at bits e wide h =
+    let whole : w ≡ (w - 128) + 128 = omega arith in
+    refuses_same e (number w at bits) (then (number (w - 128) at bits) (λ h' at' bits'. then (number 128 at' bits') (λ l. give (h' * 2 ^ 128 + l))))
+    (ap (λ k. number k at bits) whole ∙ number_split (w - 128) 128 at bits)
+    (refuses_then e (number (w - 128) at bits) (λ h' at' bits'. then (number 128 at' bits') (λ l. give (h' * 2 ^ 128 + l))) h)
+
+-- a first child that is refused, whatever the code with children
+pub parent_stops : (i start c at : ℕ) (bits : List Bool) (e : CodecRefusal) → ¬ (c ≡ 3) → Refuses e (read_child i at bits) → Refuses e (parent i start c at bits)
+parent_stops i start zero at bits e n h = refuses_then e (read_child i at bits) (λ l at' bits'. one_child i (node.Comp l) at' bits') h
+parent_stops i start (suc zero) at bits e n h = refuses_then e (read_child i at bits) (λ l at' bits'. one_child i (node.Case l) at' bits') h
+parent_stops i start (suc (suc zero)) at bits e n h = refuses_then e (read_child i at bits) (λ l at' bits'. one_child i (node.Pair l) at' bits') h
+parent_stops i start (suc (suc (suc zero))) at bits e n h = absurd (n refl)
+parent_stops i start (suc (suc (suc (suc zero)))) at bits e n h = refuses_then e (read_child i at bits) (λ l. give (node.Injl l)) h
+parent_stops i start (suc (suc (suc (suc (suc zero))))) at bits e n h = refuses_then e (read_child i at bits) (λ l. give (node.Injr l)) h
+parent_stops i start (suc (suc (suc (suc (suc (suc zero)))))) at bits e n h = refuses_then e (read_child i at bits) (λ l. give (node.Take l)) h
+parent_stops i start (suc (suc (suc (suc (suc (suc (suc more))))))) at bits e n h = refuses_then e (read_child i at bits) (λ l. give (node.Drop l)) h
+
+-- a second child that is refused
+pub two_stops : (i l at end : ℕ) (make : ℕ → ℕ → Node) (bits more : List Bool) (e : CodecRefusal) → read_child i at bits ≡ Got l end more → Refuses e (read_child i end more) →
+    Refuses e (two_children i make at bits)
+two_stops i l at end make bits more e got h =
+    refuses_same e (two_children i make at bits) (one_child i (make l) end more) (one_left i l at end make bits more got) (refuses_then e (read_child i end more) (λ k. give (make l k)) h)
+
+-- the width of a word by its level
+pub width_is : (level : ℕ) → level ≤ 8 → (1 * 2 ^ level) % 65536 ≡ 2 ^ level
+width_is zero h = refl
+width_is (suc zero) h = refl
+width_is (suc (suc zero)) h = refl
+width_is (suc (suc (suc zero))) h = refl
+width_is (suc (suc (suc (suc zero)))) h = refl
+width_is (suc (suc (suc (suc (suc zero))))) h = refl
+width_is (suc (suc (suc (suc (suc (suc zero)))))) h = refl
+width_is (suc (suc (suc (suc (suc (suc (suc zero))))))) h = refl
+width_is (suc (suc (suc (suc (suc (suc (suc (suc zero)))))))) h = refl
+width_is (suc (suc (suc (suc (suc (suc (suc (suc (suc more))))))))) h = absurd (omega arith)
+
+is_word_width : (level : ℕ) → level ≤ 8 → is_width (2 ^ level) ≡ true
+is_word_width zero h = refl
+is_word_width (suc zero) h = refl
+is_word_width (suc (suc zero)) h = refl
+is_word_width (suc (suc (suc zero))) h = refl
+is_word_width (suc (suc (suc (suc zero)))) h = refl
+is_word_width (suc (suc (suc (suc (suc zero))))) h = refl
+is_word_width (suc (suc (suc (suc (suc (suc zero)))))) h = refl
+is_word_width (suc (suc (suc (suc (suc (suc (suc zero))))))) h = refl
+is_word_width (suc (suc (suc (suc (suc (suc (suc (suc zero)))))))) h = refl
+is_word_width (suc (suc (suc (suc (suc (suc (suc (suc (suc more))))))))) h = absurd (omega arith)
+
+level_is : (level : ℕ) → level ≤ 8 → level_of (2 ^ level) ≡ level
+level_is zero h = refl
+level_is (suc zero) h = refl
+level_is (suc (suc zero)) h = refl
+level_is (suc (suc (suc zero))) h = refl
+level_is (suc (suc (suc (suc zero)))) h = refl
+level_is (suc (suc (suc (suc (suc zero))))) h = refl
+level_is (suc (suc (suc (suc (suc (suc zero)))))) h = refl
+level_is (suc (suc (suc (suc (suc (suc (suc zero))))))) h = refl
+level_is (suc (suc (suc (suc (suc (suc (suc (suc zero)))))))) h = refl
+level_is (suc (suc (suc (suc (suc (suc (suc (suc (suc more))))))))) h = absurd (omega arith)
+
+pub word_fits : (level x at end : ℕ) (bits more : List Bool) → level ≤ 8 → number ((1 * 2 ^ level) % 65536) at bits ≡ Got x end more →
+    IsUnsigned (record { width = (1 * 2 ^ level) % 65536; number = x })
+word_fits level x at end bits more h e =
+    record { width = ap is_width (width_is level h) ∙ is_word_width level h; fits = (number_only ((1 * 2 ^ level) % 65536) at x end bits more e).0 }
+
+pub word_read : (i level at mid x end : ℕ) (bits more rest' : List Bool) (word : Unsigned) → level ≤ 8 → read_level i at bits ≡ Got level mid more →
+    number ((1 * 2 ^ level) % 65536) mid more ≡ Got x end rest' → word ≡ record { width = (1 * 2 ^ level) % 65536; number = x } →
+    read_word i at bits ≡ Got (node.Word (level_of word.width) word.number) end rest'
+word_read i level at mid x end bits more rest' word h e f is =
+    let width : word.width ≡ 2 ^ level = ap (λ (u : Unsigned). u.width) is ∙ width_is level h in
+    let same : level_of word.width ≡ level = ap level_of width ∙ level_is level h in
+    let inside : number (2 ^ level) mid more ≡ Got x end rest' = ap (λ k. number k mid more) (sym (width_is level h)) ∙ f in
+    ap (λ r. then r (λ k at' bits'. then (number (2 ^ k) at' bits') (λ n. give (node.Word k n)))) e
+    ∙ ap (λ r. then r (λ n. give (node.Word level n))) inside
+    ∙ ap (λ k. Got (node.Word k x) end rest') (sym same) ∙ ap (λ n. Got (node.Word (level_of word.width) n) end rest') (sym (ap (λ (u : Unsigned). u.number) is))
+
+pub word_ends : (i level at mid : ℕ) (bits more : List Bool) (e : CodecRefusal) → level ≤ 8 → read_level i at bits ≡ Got level mid more →
+    Refuses e (number ((1 * 2 ^ level) % 65536) mid more) → Refuses e (read_word i at bits)
+word_ends i level at mid bits more e h got stops =
+    refuses_same e (read_word i at bits) (then (number (2 ^ level) mid more) (λ n. give (node.Word level n)))
+    (ap (λ r. then r (λ k at' bits'. then (number (2 ^ k) at' bits') (λ n. give (node.Word k n)))) got)
+    (refuses_then e (number (2 ^ level) mid more) (λ n. give (node.Word level n)) (subst (λ k. Refuses e (number k mid more)) (width_is level h) stops))
