@@ -182,7 +182,7 @@ fn reads_short_programs(rt: HostRuntime) -> Result<(), Fail> {
             let (run, more) = rest.split_at(5);
             let count = digit(run[2]) * 4096 + digit(run[3]) * 64 + digit(run[4]);
             for _ in 0..count {
-                let both = [(value >> 8) as u8, value as u8];
+                let both = value.to_be_bytes();
                 let (_, bytes) = both.as_slice().split_at(2 - length);
                 let found = letters(rt.alloc(), bytes)?;
                 assert_eq!(rt; found.as_slice(), run.split_at(2).0, "at {value} of {length}");
