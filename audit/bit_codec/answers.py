@@ -131,7 +131,11 @@ fn letters(alloc: Global, bytes: &[u8]) -> Result<[u8; 2], Fail> {
     let (letter, place) = match read_program(alloc, bytes) {
         Ok(nodes) => {
             let again = write_program(alloc, &nodes)?;
-            let letter = if again.as_slice() == bytes { b'O' } else { b'?' };
+            let letter = if again.as_slice() == bytes {
+                b'O'
+            } else {
+                b'?'
+            };
             (letter, nodes.len() as u128)
         }
         Err(CodecRefusal::EndOfBits { at }) => (b'E', at),
@@ -168,13 +172,23 @@ fn reads_short_programs(rt: HostRuntime) -> Result<(), Fail> {
                 let both = value.to_be_bytes();
                 let (_, bytes) = both.as_slice().split_at(2 - length);
                 let found = letters(rt.alloc(), bytes)?;
-                assert_eq!(rt; found.as_slice(), run.split_at(2).0, "at {value} of {length}");
+                assert_eq!(rt;
+                    found.as_slice(),
+                    run.split_at(2).0,
+                    "at {value} of {length}"
+                );
                 value = value.wrapping_add(1);
             }
             rest = more;
         }
         assert_eq!(rt; rest.len(), 0);
-        let whole = if length == 1 { 256 } else if length == 0 { 1 } else { 0 };
+        let whole = if length == 1 {
+            256
+        } else if length == 0 {
+            1
+        } else {
+            0
+        };
         assert_eq!(rt; value, whole);
     }
     Ok(())
@@ -190,7 +204,7 @@ def main():
         if len(lines) == 1:
             print(f'const {name}: &str = "{lines[0]}";')
             continue
-        print(f"const {name}: &str = concat!(")
+        print(f"\nconst {name}: &str = concat!(")
         for line in lines:
             print(f'    "{line}",')
         print(");")

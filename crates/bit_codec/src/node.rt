@@ -29,11 +29,7 @@ pub(crate) fn read_node(bits: &mut BitReader, index: usize) -> Result<ListNode, 
 }
 
 /// Reads the rest of a node whose code begins with 00, which has children.
-fn read_parent(
-    bits: &mut BitReader,
-    index: usize,
-    start: u128,
-) -> Result<ListNode, CodecRefusal>
+fn read_parent(bits: &mut BitReader, index: usize, start: u128) -> Result<ListNode, CodecRefusal>
     requires { bits.old.at ≡ start + 2 }
     ensures { Gives node_of (Behind (reading.read_node index) start (false ∷ false ∷ [])) result bits.old bits.new }
 {

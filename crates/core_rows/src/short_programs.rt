@@ -6,11 +6,13 @@ use std::alloc::Global;
 use std::test::Fail;
 
 const NONE: &str = "Ea001";
+
 const ONE: &str = concat!(
     "Ba002Ei002Ba002Ei002Ba002Ei002Db004Ba002Ei002Ba002Ei002Ba002Ei002Ba002Ei002Ob001Ph001Pg002Ob001Ph001",
     "Pg002Ei004Rb004Ei008Ob001Ph001Pg002Pf004Ob001Ph001Pg002Pf004Ob001Ph001Pg002Pf004Ob004Ei00<Jb00PEi003",
     "Dd001Ei007Rd001Ei00<Jd008Ei003Dd001Ei007Rd001Ei00<Jd008Ei003Jg001Ei003Jg001Ei003Jg001Ei003Jg001Ei00`",
 );
+
 const TWO: &str = concat!(
     "Ba0>0Eq020Ba0>0Eq020Ba0>0Eq020Db0@0Ba0>0Eq020Ba0>0Eq020Ba0>0Eq020Ba0>0Eq020Pi001Pp001Po002Pn004Pm008",
     "Pl00@Pk00PPj010Pi020Ph040Pg080Pi001Pp001Po002Pn004Pm008Pl00@Pk00PPj010Pi020Ph040Pg080Eq0@0Rb0@0Eq0P0",
@@ -148,7 +150,11 @@ fn letters(alloc: Global, bytes: &[u8]) -> Result<[u8; 2], Fail> {
     let (letter, place) = match read_program(alloc, bytes) {
         Ok(nodes) => {
             let again = write_program(alloc, &nodes)?;
-            let letter = if again.as_slice() == bytes { b'O' } else { b'?' };
+            let letter = if again.as_slice() == bytes {
+                b'O'
+            } else {
+                b'?'
+            };
             (letter, nodes.len() as u128)
         }
         Err(CodecRefusal::EndOfBits { at }) => (b'E', at),
@@ -185,13 +191,23 @@ fn reads_short_programs(rt: HostRuntime) -> Result<(), Fail> {
                 let both = value.to_be_bytes();
                 let (_, bytes) = both.as_slice().split_at(2 - length);
                 let found = letters(rt.alloc(), bytes)?;
-                assert_eq!(rt; found.as_slice(), run.split_at(2).0, "at {value} of {length}");
+                assert_eq!(rt;
+                    found.as_slice(),
+                    run.split_at(2).0,
+                    "at {value} of {length}"
+                );
                 value = value.wrapping_add(1);
             }
             rest = more;
         }
         assert_eq!(rt; rest.len(), 0);
-        let whole = if length == 1 { 256 } else if length == 0 { 1 } else { 0 };
+        let whole = if length == 1 {
+            256
+        } else if length == 0 {
+            1
+        } else {
+            0
+        };
         assert_eq!(rt; value, whole);
     }
     Ok(())

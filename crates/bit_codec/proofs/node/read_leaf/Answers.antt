@@ -21,8 +21,8 @@ returns-in_err-fill c =
 pub returns-then-branch : goal.returns-then-branch
 returns-then-branch c = (
   hidden_there c.args.index c.args.start c.args.bits.now.at c.bit.new.self.at c.bit-then-branch.new.self.at (rest c.args.bits.now) (rest c.bit.new.self) (rest c.bit-then-branch.new.self)
-    c.requires (c.in_ok-bit.ensures.reads.0 ∙ ap (λ b. Got b c.bit.new.self.at (rest c.bit.new.self)) c.if-branch.true)
-    (c.in_ok-bit-2.ensures.reads.0 ∙ ap (λ b. Got b c.bit-then-branch.new.self.at (rest c.bit-then-branch.new.self)) c.if-branch-2.false)
+      c.requires (c.in_ok-bit.ensures.reads.0 ∙ ap (λ b. Got b c.bit.new.self.at (rest c.bit.new.self)) c.if-branch.true)
+      (c.in_ok-bit-2.ensures.reads.0 ∙ ap (λ b. Got b c.bit-then-branch.new.self.at (rest c.bit-then-branch.new.self)) c.if-branch-2.false)
       ∙ ap (λ r. then r (λ bs. give (node.Hidden bs))) c.in_ok-fill.ensures.reads.0,
   c.in_ok-fill.ensures.reads.1 ∙ c.in_ok-bit-2.ensures.reads.1 ∙ c.in_ok-bit.ensures.reads.1,
 )
@@ -41,8 +41,8 @@ returns-in_err-fill-in-2 c =
 pub returns-in_ok-fill-in-2 : goal.returns-in_ok-fill-in-2
 returns-in_ok-fill-in-2 c = (
   (leaf_there c.args.index c.args.start c.args.bits.now.at c.bit.new.self.at c.in_ok-number.field-0 c.number.new.self.at (rest c.args.bits.now) (rest c.bit.new.self) (rest c.number.new.self)
-    c.requires (c.in_ok-bit.ensures.reads.0 ∙ ap (λ b. Got b c.bit.new.self.at (rest c.bit.new.self)) c.if-branch.false) c.in_ok-number.ensures.reads.0
-    ∙ ap (λ k. leaf c.args.start k c.number.new.self.at (rest c.number.new.self)) c.in-2.is)
+      c.requires (c.in_ok-bit.ensures.reads.0 ∙ ap (λ b. Got b c.bit.new.self.at (rest c.bit.new.self)) c.if-branch.false) c.in_ok-number.ensures.reads.0
+      ∙ ap (λ k. leaf c.args.start k c.number.new.self.at (rest c.number.new.self)) c.in-2.is)
       ∙ ap (λ r. then r (λ bs. give (node.Fail bs))) c.in_ok-fill-in-2.ensures.reads.0,
   c.in_ok-fill-in-2.ensures.reads.1 ∙ c.in_ok-number.ensures.reads.1 ∙ c.in_ok-bit.ensures.reads.1,
 )
