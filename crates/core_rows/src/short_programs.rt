@@ -1,6 +1,8 @@
 //! What each string of at most two bytes is read as. The table is made by audit/bit_codec/answers.py, which reads the
 //! format apart from the program's code.
 
+ghost use Rattle.std.specs.Prelude.{◌<◌};
+
 use bit_codec::{CodecRefusal, read_program, write_program};
 use std::alloc::Global;
 use std::test::Fail;
@@ -175,7 +177,9 @@ fn letters(alloc: Global, bytes: &[u8]) -> Result<[u8; 2], Fail> {
 }
 
 /// A digit of 64, from `0` on.
-fn digit(byte: u8) -> u32 {
+fn digit(byte: u8) -> u32
+    ensures { result < 64 }
+{
     u32::from(byte.wrapping_sub(b'0')) % 64
 }
 
@@ -183,30 +187,23 @@ fn digit(byte: u8) -> u32 {
 fn reads_short_programs(rt: HostRuntime) -> Result<(), Fail> {
     for (length, runs) in [(0, NONE), (1, ONE), (2, TWO)] {
         let mut value = 0u16;
-        let mut rest = runs.as_bytes();
-        while rest.len() >= 5 {
-            let (run, more) = rest.split_at(5);
-            let count = digit(run[2]) * 4096 + digit(run[3]) * 64 + digit(run[4]);
+        for run in runs.as_bytes().chunks(5) {
+            let [letter, place, high, middle, low] = run else {
+                return Err("a run is cut off".into());
+            };
+            let count = digit(*high) * 4096 + digit(*middle) * 64 + digit(*low);
             for _ in 0..count {
                 let both = value.to_be_bytes();
                 let (_, bytes) = both.as_slice().split_at(2 - length);
                 let found = letters(rt.alloc(), bytes)?;
-                assert_eq!(rt;
-                    found.as_slice(),
-                    run.split_at(2).0,
-                    "at {value} of {length}"
-                );
+                assert_eq!(rt; found, [*letter, *place], "at {value} of {length}");
                 value = value.wrapping_add(1);
             }
-            rest = more;
         }
-        assert_eq!(rt; rest.len(), 0);
-        let whole = if length == 1 {
-            256
-        } else if length == 0 {
-            1
-        } else {
-            0
+        let whole = match length {
+            0 => 1,
+            1 => 256,
+            _ => 0,
         };
         assert_eq!(rt; value, whole);
     }
