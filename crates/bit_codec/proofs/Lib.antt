@@ -1,2 +1,4 @@
 pub mod Written
 mod Carried
+mod Fields
+mod Lists

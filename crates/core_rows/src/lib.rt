@@ -11,7 +11,11 @@ mod jet_names;
 #[cfg(test)]
 mod programs;
 #[cfg(test)]
+mod readings;
+#[cfg(test)]
 mod roots;
+#[cfg(test)]
+mod short_programs;
 #[cfg(test)]
 mod small;
 #[cfg(test)]

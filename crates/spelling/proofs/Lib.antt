@@ -1,0 +1,13 @@
+pub mod Basics
+pub mod Numbers
+pub mod Nodes
+pub mod Places
+pub mod Programs
+pub mod Refusals
+pub mod Rows
+pub mod Counted
+pub mod Stopped
+pub mod Parts
+pub mod Values
+pub mod Named
+pub mod NamedNodes

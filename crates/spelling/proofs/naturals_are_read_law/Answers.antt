@@ -1,0 +1,5 @@
+use Rattle.spelling.proofs.Numbers.{naturals_are_read}
+use Rattle.spelling.proofs.naturals_are_read_law.Goals as goal
+
+pub returns : goal.returns
+returns c = naturals_are_read

@@ -1,0 +1,5 @@
+use Rattle.spelling.proofs.Parts.{naturals_have_parts}
+use Rattle.spelling.proofs.naturals_have_parts_law.Goals as goal
+
+pub returns : goal.returns
+returns c = naturals_have_parts

@@ -1,0 +1,5 @@
+use Rattle.spelling.proofs.Counted.{places_count}
+use Rattle.spelling.proofs.places_count_law.Goals as goal
+
+pub returns : goal.returns
+returns c = places_count

@@ -1,0 +1,5 @@
+use Rattle.spelling.proofs.Programs.{programs_are_read}
+use Rattle.spelling.proofs.programs_are_read_law.Goals as goal
+
+pub returns : goal.returns
+returns c = programs_are_read

@@ -1,0 +1,5 @@
+use Rattle.spelling.proofs.NamedNodes.{refusals_are_named}
+use Rattle.spelling.proofs.refusals_are_named_law.Goals as goal
+
+pub returns : goal.returns
+returns c = refusals_are_named

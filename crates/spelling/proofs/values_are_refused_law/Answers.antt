@@ -1,0 +1,5 @@
+use Rattle.spelling.proofs.Values.{values_are_refused}
+use Rattle.spelling.proofs.values_are_refused_law.Goals as goal
+
+pub returns : goal.returns
+returns c = values_are_refused

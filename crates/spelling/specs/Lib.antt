@@ -1,0 +1,7 @@
+pub mod Reading
+pub mod Laws
+pub mod Places
+pub mod Stops
+pub mod Parts
+pub mod Values
+pub mod Refusals
