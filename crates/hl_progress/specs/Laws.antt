@@ -22,5 +22,7 @@ TypedAnswers =
 -- gives a value of the function's result type
 abbrev pub CheckedAnswers : Type 0
 CheckedAnswers =
-    (source : List Item) (asked : List ℕ) (entries : List Entry) (end : ℕ) (program : Checked) → checked source asked entries end ≡ Ok program → AreValued entries →
-    (name : List ℕ) (argument : HlValue) (witness : List Binding) (call : FitsCall program name argument witness) → HasAnswer call.function.result (meaning program.functions name witness argument)
+    (source : List Item) (asked : List ℕ) (entries : List Entry) (edition end : ℕ) (program : Checked) →
+    checked source asked entries edition end ≡ Ok program → AreValued entries →
+    (name : List ℕ) (argument : HlValue) (witness : List Binding) (call : FitsCall program name argument witness) →
+    HasAnswer call.function.result (meaning program.functions name witness argument)

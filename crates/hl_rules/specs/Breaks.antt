@@ -96,107 +96,115 @@ are_arms _ = false
 abbrev pub made_type : List TypedName → TypeForm → Span → Walked
 made_type aliases form span = fold-TypeForm (Span → Walked) Walked (walk_step aliases) (λ t. then_walk (t.form t.span) (light t.span)) form span
 
-pub data Breaks (program : List Item) (asked : List ℕ) (entries : List Entry) (end : ℕ) : Broken → Type 0 where
+pub data Breaks (program : List Item) (asked : List ℕ) (entries : List Entry) (edition end : ℕ) : Broken → Type 0 where
   -- K1: a second function, or a second alias, has the name
   k1_function : (name : Mark) (params : List Param) (text : Option TypeText) (e : Expr) (span : Span) (aliases : List TypedName) (functions : List Signature) →
-      Holds program (items.Function name params text e span) aliases functions → IsTrue (has_signature functions name.text) → Breaks program asked entries end (breaks_rule K1 name.span)
+      Holds program (items.Function name params text e span) aliases functions → IsTrue (has_signature functions name.text) → Breaks program asked entries edition end (breaks_rule K1 name.span)
   k1_alias : (name : Mark) (text : TypeText) (span : Span) (aliases : List TypedName) (functions : List Signature) →
-      Holds program (items.Alias name text span) aliases functions → IsTrue (has_name aliases name.text) → Breaks program asked entries end (breaks_rule K1 name.span)
+      Holds program (items.Alias name text span) aliases functions → IsTrue (has_name aliases name.text) → Breaks program asked entries edition end (breaks_rule K1 name.span)
   -- K2: a type name is none of bool, the numbers' types and the aliases before
-  k2 : (aliases : List TypedName) (name : List ℕ) (span : Span) → IsWritten program aliases (types.Name name) span → named aliases name ≡ None → Breaks program asked entries end (breaks_rule K2 span)
+  k2 : (aliases : List TypedName) (name : List ℕ) (span : Span) → IsWritten program aliases (types.Name name) span → named aliases name ≡ None → Breaks program asked entries edition end (breaks_rule K2 span)
   -- K3: no function before has the name
   k3 : (at : Place) (form : ExprForm) (span : Span) (name : Mark) → Occurs program at form span → Calls form name → signature_named at.functions name.text ≡ None →
-      Breaks program asked entries end (breaks_rule K3 name.span)
+      Breaks program asked entries edition end (breaks_rule K3 name.span)
   -- K4: no variable in scope has the name
-  k4 : (at : Place) (name : List ℕ) (span : Span) → Occurs program at (exprs.Name name) span → variable_type at.scope name ≡ None → Breaks program asked entries end (breaks_rule K4 span)
+  k4 : (at : Place) (name : List ℕ) (span : Span) → Occurs program at (exprs.Name name) span → variable_type at.scope name ≡ None → Breaks program asked entries edition end (breaks_rule K4 span)
   -- K5: a name stands twice in one pattern, or in the parameters
   k5_pattern : (name : List ℕ) (span : Span) (kind : HlType) (before : Names) → IsMatched program (patterns.Name name) span kind before → IsTrue (is_among before name) →
-      Breaks program asked entries end (breaks_rule K5 span)
+      Breaks program asked entries edition end (breaks_rule K5 span)
   k5_param : (name : Mark) (before after : List Param) (param : Param) (text : Option TypeText) (e : Expr) (span : Span) (aliases : List TypedName) (functions : List Signature) →
       Holds program (items.Function name (before ++ param ∷ after) text e span) aliases functions → IsTrue (is_among (map (λ p. p.name.text) before) param.name.text) →
-      Breaks program asked entries end (breaks_rule K5 param.name.span)
+      Breaks program asked entries edition end (breaks_rule K5 param.name.span)
   -- K6: an expression or pattern doesn't have the expected type
-  k6 : (at : Place) (form : ExprForm) (span : Span) → Occurs program at form span → Misfits at form → at.stands_alone ≡ false → Breaks program asked entries end (breaks_rule K6 span)
+  k6 : (at : Place) (form : ExprForm) (span : Span) → Occurs program at form span → Misfits at form → at.stands_alone ≡ false → Breaks program asked entries edition end (breaks_rule K6 span)
   k6_tuple_pattern : (parts : List Pattern) (span : Span) (kind : HlType) (before : Names) → IsMatched program (patterns.Tuple parts) span kind before → parts_of kind ≡ None →
-      Breaks program asked entries end (breaks_rule K6 span)
+      Breaks program asked entries edition end (breaks_rule K6 span)
   k6_array_pattern : (parts : List Pattern) (span : Span) (kind : HlType) (before : Names) → IsMatched program (patterns.Array parts) span kind before → array_of kind ≡ None →
-      Breaks program asked entries end (breaks_rule K6 span)
+      Breaks program asked entries edition end (breaks_rule K6 span)
   -- K7: a literal is too large for its type
   k7 : (at : Place) (word : List ℕ) (span : Span) (width : ℕ) → Occurs program at (exprs.Literal word) span → width_of at.expected ≡ Some width → 2 ^ width ≤ literal_value word →
-      Breaks program asked entries end (breaks_rule K7 span)
+      Breaks program asked entries edition end (breaks_rule K7 span)
   -- K8: a tuple or array has another count than its type
   k8_tuple : (at : Place) (parts : List Expr) (span : Span) (kinds : List HlType) → Occurs program at (exprs.Tuple parts) span → parts_of at.expected ≡ Some kinds → length parts ≢ length kinds →
-      Breaks program asked entries end (breaks_rule K8 span)
+      Breaks program asked entries edition end (breaks_rule K8 span)
   k8_array : (at : Place) (parts : List Expr) (span : Span) (item : HlType) (count : ℕ) → Occurs program at (exprs.Array parts) span → array_of at.expected ≡ Some (item, count) → length parts ≢ count →
-      Breaks program asked entries end (breaks_rule K8 span)
+      Breaks program asked entries edition end (breaks_rule K8 span)
   k8_tuple_pattern : (parts : List Pattern) (span : Span) (kind : HlType) (before : Names) (kinds : List HlType) → IsMatched program (patterns.Tuple parts) span kind before → parts_of kind ≡ Some kinds →
-      length parts ≢ length kinds → Breaks program asked entries end (breaks_rule K8 span)
+      length parts ≢ length kinds → Breaks program asked entries edition end (breaks_rule K8 span)
   k8_array_pattern : (parts : List Pattern) (span : Span) (kind : HlType) (before : Names) (item : HlType) (count : ℕ) → IsMatched program (patterns.Array parts) span kind before →
-      array_of kind ≡ Some (item, count) → length parts ≢ count → Breaks program asked entries end (breaks_rule K8 span)
+      array_of kind ≡ Some (item, count) → length parts ≢ count → Breaks program asked entries edition end (breaks_rule K8 span)
   -- K9: a list has as many items as its bound, or more
   k9 : (at : Place) (parts : List Expr) (span : Span) (item : HlType) (bound : ℕ) → Occurs program at (exprs.List parts) span → list_of at.expected ≡ Some (item, bound) → bound ≤ length parts →
-      Breaks program asked entries end (breaks_rule K9 span)
+      Breaks program asked entries edition end (breaks_rule K9 span)
   -- K10: a list bound is no power of two from 2 up
   k10 : (aliases : List TypedName) (item : TypeText) (bound : Mark) (span : Span) → IsWritten program aliases (types.List item bound) span → IsTrue (not (is_bound (decimal_value bound.text))) →
-      Breaks program asked entries end (breaks_rule K10 bound.span)
+      Breaks program asked entries edition end (breaks_rule K10 bound.span)
   -- K11: a call or jet has another number of arguments
   k11_call : (at : Place) (name : Mark) (arguments : List Expr) (span : Span) (f : Signature) → Occurs program at (exprs.Call name arguments) span → signature_named at.functions name.text ≡ Some f →
-      length arguments ≢ length f.params → Breaks program asked entries end (breaks_rule K11 span)
+      length arguments ≢ length f.params → Breaks program asked entries edition end (breaks_rule K11 span)
   k11_jet : (at : Place) (name : Mark) (arguments : List Expr) (span : Span) (row : Row) → Occurs program at (exprs.Jet name arguments) span → jet_named name.text ≡ Some row →
-      length arguments ≢ length (jet_arguments row) → Breaks program asked entries end (breaks_rule K11 span)
+      length arguments ≢ length (jet_arguments row) → Breaks program asked entries edition end (breaks_rule K11 span)
   -- K12: the forms of a conversion differ
   k12 : (at : Place) (text : TypeText) (e : Expr) (span : Span) (source : HlType) → Occurs program at (exprs.Into text e) span → walk at.aliases text ≡ Ok source → form source ≢ form at.expected →
-      Breaks program asked entries end (breaks_rule K12 span)
+      Breaks program asked entries edition end (breaks_rule K12 span)
   -- K13: the sides of a match are not Left and Right, None and Some, or false and true, each once
-  k13 : (at : Place) (e : Expr) (arms : List Arm) (span : Span) → Occurs program at (exprs.Match e arms) span → IsTrue (not (are_arms arms)) → Breaks program asked entries end (breaks_rule K13 span)
+  k13 : (at : Place) (e : Expr) (arms : List Arm) (span : Span) → Occurs program at (exprs.Match e arms) span → IsTrue (not (are_arms arms)) → Breaks program asked entries edition end (breaks_rule K13 span)
   -- K14: a loop's function has not the loop's shape
   k14 : (at : Place) (form : ExprForm) (span : Span) (name : Mark) (f : Signature) → Occurs program at form span → signature_named at.functions name.text ≡ Some f →
-      IsShapeless form name (types_of f) f.result → Breaks program asked entries end (breaks_rule K14 name.span)
+      IsShapeless form name (types_of f) f.result → Breaks program asked entries edition end (breaks_rule K14 name.span)
   -- K15: the count of a fold is no power of two from 2 up
   k15 : (at : Place) (name count : Mark) (items total : Expr) (span : Span) → Occurs program at (exprs.Fold name count items total) span → IsTrue (not (is_bound (decimal_value count.text))) →
-      Breaks program asked entries end (breaks_rule K15 count.span)
+      Breaks program asked entries edition end (breaks_rule K15 count.span)
   -- K16: a witness stands outside `main`
-  k16 : (at : Place) (name : Mark) (span : Span) → Occurs program at (exprs.Witness name) span → at.in_main ≡ false → Breaks program asked entries end (breaks_rule K16 name.span)
-  -- K17: a witness name stands a second time
-  k17 : (at : Place) (name : Mark) (span : Span) → Occurs program at (exprs.Witness name) span → IsTrue (is_among at.witnesses name.text) → Breaks program asked entries end (breaks_rule K17 name.span)
+  k16 : (at : Place) (name : Mark) (span : Span) → Occurs program at (exprs.Witness name) span → at.in_main ≡ false → Breaks program asked entries edition end (breaks_rule K16 name.span)
+  -- K17: in edition 1 a witness name stands a second time
+  k17 : (at : Place) (name : Mark) (span : Span) → edition ≢ 2 → Occurs program at (exprs.Witness name) span →
+      IsTrue (is_among at.witnesses name.text) → Breaks program asked entries edition end (breaks_rule K17 name.span)
+  -- in edition 2 it stands again where another type than at its first place is expected
+  k17_type : (first at : Place) (here name : Mark) (stands span : Span) → edition ≡ 2 →
+      Occurs program first (exprs.Witness here) stands → here.text ≡ name.text → is_among first.witnesses name.text ≡ false →
+      Occurs program at (exprs.Witness name) span → IsTrue (is_among at.witnesses name.text) →
+      IsTrue (not (same_type first.expected at.expected)) → Breaks program asked entries edition end (breaks_rule K17 name.span)
   -- K18: no entry has the name of a parameter of the program
-  k18 : (at : Place) (name : Mark) (span : Span) → Occurs program at (exprs.Param name) span → entry_named entries name.text ≡ None → Breaks program asked entries end (breaks_rule K18 name.span)
+  k18 : (at : Place) (name : Mark) (span : Span) → Occurs program at (exprs.Param name) span → entry_named entries name.text ≡ None → Breaks program asked entries edition end (breaks_rule K18 name.span)
   -- K19: the entry's type is not the expected type
   k19 : (at : Place) (name : Mark) (span : Span) (entry : Entry) → Occurs program at (exprs.Param name) span → entry_named entries name.text ≡ Some entry →
-      IsTrue (not (same_type entry.kind at.expected)) → Breaks program asked entries end (breaks_rule K19 name.span)
+      IsTrue (not (same_type entry.kind at.expected)) → Breaks program asked entries edition end (breaks_rule K19 name.span)
   -- K20: no function has the name that was asked for
   k20 : (aliases : List TypedName) (functions : List Signature) → Declare program aliases functions → IsTrue (not (has_signature functions asked)) →
-      Breaks program asked entries end (breaks_rule K20 (record { start = end; end = end }))
+      Breaks program asked entries edition end (breaks_rule K20 (record { start = end; end = end }))
   -- K21: `main` has parameters, or a result other than `()`
   k21_params : (name : Mark) (params : List Param) (text : Option TypeText) (e : Expr) (span : Span) (aliases : List TypedName) (functions : List Signature) →
-      Holds program (items.Function name params text e span) aliases functions → IsTrue (is_main name.text) → params ≢ [] → Breaks program asked entries end (breaks_rule K21 name.span)
+      Holds program (items.Function name params text e span) aliases functions → IsTrue (is_main name.text) → params ≢ [] → Breaks program asked entries edition end (breaks_rule K21 name.span)
   k21_result : (name : Mark) (params : List Param) (text : Option TypeText) (e : Expr) (span : Span) (aliases : List TypedName) (functions : List Signature) (result : HlType) →
       Holds program (items.Function name params text e span) aliases functions → IsTrue (is_main name.text) → result_walk aliases text ≡ Ok result →
-      IsTrue (not (same_type unit_type result)) → Breaks program asked entries end (breaks_rule K21 name.span)
+      IsTrue (not (same_type unit_type result)) → Breaks program asked entries edition end (breaks_rule K21 name.span)
   -- K22: no jet has the name
   k22 : (at : Place) (name : Mark) (arguments : List Expr) (span : Span) → Occurs program at (exprs.Jet name arguments) span → jet_named name.text ≡ None →
-      Breaks program asked entries end (breaks_rule K22 name.span)
+      Breaks program asked entries edition end (breaks_rule K22 name.span)
   -- K23: K6 would name the whole expression of a statement that is no `let`
-  k23 : (at : Place) (form : ExprForm) (span : Span) → Occurs program at form span → Misfits at form → at.stands_alone ≡ true → Breaks program asked entries end (breaks_rule K23 span)
+  k23 : (at : Place) (form : ExprForm) (span : Span) → Occurs program at form span → Misfits at form → at.stands_alone ≡ true → Breaks program asked entries edition end (breaks_rule K23 span)
   -- K24: a reserved name is declared
   k24_alias : (name : Mark) (text : TypeText) (span : Span) (aliases : List TypedName) (functions : List Signature) →
-      Holds program (items.Alias name text span) aliases functions → IsTrue (is_reserved alias_words name.text) → Breaks program asked entries end (breaks_rule K24 name.span)
+      Holds program (items.Alias name text span) aliases functions → IsTrue (is_reserved alias_words name.text) → Breaks program asked entries edition end (breaks_rule K24 name.span)
   k24_function : (name : Mark) (params : List Param) (text : Option TypeText) (e : Expr) (span : Span) (aliases : List TypedName) (functions : List Signature) →
-      Holds program (items.Function name params text e span) aliases functions → IsTrue (is_reserved function_words name.text) → Breaks program asked entries end (breaks_rule K24 name.span)
+      Holds program (items.Function name params text e span) aliases functions → IsTrue (is_reserved function_words name.text) → Breaks program asked entries edition end (breaks_rule K24 name.span)
   k24_param : (name : Mark) (before after : List Param) (param : Param) (text : Option TypeText) (e : Expr) (span : Span) (aliases : List TypedName) (functions : List Signature) →
       Holds program (items.Function name (before ++ param ∷ after) text e span) aliases functions → IsTrue (is_reserved variable_words param.name.text) →
-      Breaks program asked entries end (breaks_rule K24 param.name.span)
+      Breaks program asked entries edition end (breaks_rule K24 param.name.span)
   k24_pattern : (name : List ℕ) (span : Span) (kind : HlType) (before : Names) → IsMatched program (patterns.Name name) span kind before → IsTrue (is_reserved variable_words name) →
-      Breaks program asked entries end (breaks_rule K24 span)
+      Breaks program asked entries edition end (breaks_rule K24 span)
   -- L4: an array's length, a list's bound or a fold's count is greater than 65,536
   l4_type : (aliases : List TypedName) (form : TypeForm) (span : Span) (count : Mark) → IsWritten program aliases form span → HasCount form count → 65536 < decimal_value count.text →
-      Breaks program asked entries end (breaks_limit L4 count.span)
+      Breaks program asked entries edition end (breaks_limit L4 count.span)
   l4_fold : (at : Place) (form : ExprForm) (span : Span) (count : Mark) → Occurs program at form span → Counts form count → 65536 < decimal_value count.text →
-      Breaks program asked entries end (breaks_limit L4 count.span)
+      Breaks program asked entries edition end (breaks_limit L4 count.span)
   -- L5: the form of a written type has more than 4,194,304 nodes
   l5 : (aliases : List TypedName) (text : TypeForm) (span : Span) (kind : HlType) → IsWritten program aliases text span → made_type aliases text span ≡ Ok kind → most_weight < weight (form kind) →
-      Breaks program asked entries end (breaks_limit L5 span)
+      Breaks program asked entries edition end (breaks_limit L5 span)
 
 -- what the walk finds first is broken
 abbrev pub AnsweredIsBroken : Type 0
-AnsweredIsBroken = (program : List Item) (asked : List ℕ) (entries : List Entry) (end : ℕ) (broken : Broken) → checked program asked entries end ≡ Err broken → Breaks program asked entries end broken
+AnsweredIsBroken =
+    (program : List Item) (asked : List ℕ) (entries : List Entry) (edition end : ℕ) (broken : Broken) →
+    checked program asked entries edition end ≡ Err broken → Breaks program asked entries edition end broken

@@ -1,5 +1,5 @@
 -- Expressions at their types: the tree with its types, or the rule or limit that is broken first.
-use Rattle.std.specs.Prelude.{ℕ, ◌^◌, Bool, true, false, not, ◌&&◌, nat_eq, nat_lt, List, [], ◌∷◌, ◌++◌, length, map, bytes_eq, find, Option, Some, None, Ok, if◌then◌else◌}
+use Rattle.std.specs.Prelude.{ℕ, ◌^◌, Bool, true, false, ◌&&◌, nat_eq, nat_lt, List, [], ◌∷◌, ◌++◌, length, map, bytes_eq, find, Option, Some, None, Ok, if◌then◌else◌}
 use Rattle.hl_syntax.specs.declared.kinds.HlType.{HlType}
 use Rattle.hl_syntax.specs.declared.kinds.HlType.TheVariants as kind
 use Rattle.hl_syntax.specs.declared.kinds.TypedName.{TypedName}
@@ -29,7 +29,7 @@ use Rattle.simplicityhl.specs.Kinds.{form, is_bound}
 use Rattle.simplicityhl.specs.Written.{walk, counted, then_walk}
 use Rattle.hl_meaning.specs.Literals.{literal_value}
 use Rattle.hl_rules.specs.Patterns.{pattern_walk}
-use Rattle.hl_rules.specs.Places.{Scope, Context, has_name, variable_type, function_named, entry_named}
+use Rattle.hl_rules.specs.Places.{Scope, Context, variable_type, function_named, entry_named}
 use Rattle.hl_rules.specs.Same.{same_type, same_kind, unit_type, width_of, parts_of, array_of, list_of, option_of, either_of}
 use Rattle.hl_rules.specs.Steps.{Step}
 use Rattle.hl_rules.specs.Walks.{Walk, ◌>>=◌, ◌>>◌, done, plain, needs, wants, refuse}
@@ -191,6 +191,17 @@ abbrev pub while_shape : List HlType → HlType → Option (HlType × HlType)
 while_shape (total ∷ context ∷ counter ∷ []) result = if is_counter (width_of counter) && goes_on total (either_of result) then Some (total, context) else None
 while_shape _ result = None
 
+-- Witnesses.
+
+-- whether a witness that stands already, where this type was expected at its first place, may stand again: in edition 2 at that type
+abbrev pub stands_again : ℕ → HlType → Option HlType → Bool
+stands_again edition expected None = true
+stands_again edition expected (Some first) = nat_eq edition 2 && same_type first expected
+
+-- whether a witness may stand at a type, after those that were met
+abbrev pub may_stand : ℕ → List TypedName → List ℕ → HlType → Bool
+may_stand edition met name expected = stands_again edition expected (variable_type met name)
+
 -- Expressions by their forms; what is broken first is on the first line that says so.
 module _ (c : Context) where
   abbrev pub form_step : ExprForm-F FormWalk StatementWalk ArmWalk ExprWalk → FormWalk
@@ -231,7 +242,7 @@ module _ (c : Context) where
     done (typed.Jet name.text found)
   form_step (ExprForm-F.Witness name) span scope expected rule = do
     needs c.in_main K16 name.span
-    λ met. then_walk (needs (not (has_name met name.text)) K17 name.span met)
+    λ met. then_walk (needs (may_stand c.edition met name.text expected) K17 name.span met)
         (λ _. Ok (typed.Witness name.text, met ++ record { name = name.text; kind = expected } ∷ []))
   form_step (ExprForm-F.Param name) span scope expected rule = do
     entry ← wants (entry_named c.entries name.text) K18 name.span

@@ -12,12 +12,13 @@ abbrev pub Scope : Type 0
 Scope = List TypedName
 
 -- what a function's body is checked against: the aliases and the functions before it, the entries for the parameters of the
--- program, and whether the function is `main`
+-- program, whether the function is `main`, and the edition of the language, 1 or 2
 pub record Context : Type 0 where
   pub aliases : List TypedName
   pub functions : List TypedFunction
   pub entries : List Entry
   pub in_main : Bool
+  pub edition : ℕ
 
 abbrev pub is_main : List ℕ → Bool
 is_main name = bytes_eq name main_name

@@ -1,5 +1,8 @@
--- The names of the witnesses in a tree, in the text's order.
-use Rattle.std.specs.Prelude.{ℕ, List, [], ◌∷◌, ◌++◌, flat_map, Option, Some, None}
+-- The names of the witnesses in a tree, in the text's order, and the list of them that a program has.
+use Rattle.std.specs.Prelude.{ℕ, List, [], ◌∷◌, ◌++◌, flat_map, Option, Some, None, nat_eq, if◌then◌else◌}
+use Rattle.hl_syntax.specs.declared.kinds.TypedName.{TypedName}
+use Rattle.simplicityhl.specs.Grammar.{is_among}
+use Rattle.hl_rules.specs.Places.{has_name}
 use Rattle.hl_syntax.specs.declared.tree.Expr.{Expr}
 use Rattle.hl_syntax.specs.declared.tree.Item.{Item}
 use Rattle.hl_syntax.specs.declared.tree.Item.TheVariants as items
@@ -62,3 +65,25 @@ expr_names e = fold-Expr Names Names Names Names names_step statement_names_step
 abbrev pub item_names : Item → Names
 item_names (items.Alias name text span) = []
 item_names (items.Function name params text body span) = expr_names body
+
+-- Witnesses by edition.
+
+-- each name at its first place alone, after the names before
+abbrev pub first_names : Names → Names → Names
+first_names before [] = []
+first_names before (name ∷ names) =
+    if is_among before name then first_names before names else name ∷ first_names (before ++ name ∷ []) names
+
+-- the names of a program's witnesses: in edition 2 a name may stand many times in the text, and is listed where it stands first
+abbrev pub listed_names : ℕ → Names → Names
+listed_names edition names = if nat_eq edition 2 then first_names [] names else names
+
+-- the same of witnesses with their types
+abbrev pub first_witnesses : List TypedName → List TypedName → List TypedName
+first_witnesses before [] = []
+first_witnesses before (witness ∷ witnesses) =
+    if has_name before witness.name then first_witnesses before witnesses
+    else witness ∷ first_witnesses (before ++ witness ∷ []) witnesses
+
+abbrev pub listed_witnesses : ℕ → List TypedName → List TypedName
+listed_witnesses edition witnesses = if nat_eq edition 2 then first_witnesses [] witnesses else witnesses

@@ -10,11 +10,13 @@ use hl_syntax::Wanted;
 use std::marker::Model;
 
 /// The typed tree of a program: its functions, and the witnesses of `main` with their types in the
-/// text's order. It breaks no rule and no limit.
+/// text's order, in edition 2 each at its first place alone; and its edition, 1 or 2. It breaks no
+/// rule and no limit.
 #[derive(Drop)]
 pub struct TypedProgram {
     functions: Functions,
     witnesses: Wanted,
+    edition: u8,
 }
 
 impl Model for TypedProgram {
@@ -25,21 +27,23 @@ impl Model for TypedProgram {
 
     ghost coded = { coded_checked };
 
-    ghost view = { λ found. record { functions = found.functions; witnesses = found.witnesses } };
+    ghost view = { λ found. record { functions = found.functions; witnesses = found.witnesses; edition = found.edition } };
 
-    ghost invariant = { λ found. BreaksNothing (record { functions = found.functions; witnesses = found.witnesses }) };
+    ghost invariant =
+        { λ found. BreaksNothing (record { functions = found.functions; witnesses = found.witnesses; edition = found.edition }) };
 }
 
 impl TypedProgram {
-    /// The functions in the text's order and the witnesses of `main` in theirs, of a program that
-    /// breaks nothing.
-    pub fn new(functions: Functions, witnesses: Wanted) -> TypedProgram
-        requires { BreaksNothing (record { functions = functions; witnesses = witnesses }) }
-        ensures { result ≡ record { functions = functions; witnesses = witnesses } }
+    /// The functions in the text's order and the witnesses of `main` in theirs, of a program of an
+    /// edition that breaks nothing.
+    pub fn new(functions: Functions, witnesses: Wanted, edition: u8) -> TypedProgram
+        requires { BreaksNothing (record { functions = functions; witnesses = witnesses; edition = edition }) }
+        ensures { result ≡ record { functions = functions; witnesses = witnesses; edition = edition } }
     {
         TypedProgram {
             functions,
             witnesses,
+            edition,
         }
     }
 
@@ -55,6 +59,13 @@ impl TypedProgram {
         ensures { result.now ≡ self.now.functions }
     {
         &self.functions
+    }
+
+    /// The edition of the language that the program is of, 1 or 2.
+    pub fn edition(&self) -> u8
+        ensures { result ≡ self.now.edition }
+    {
+        self.edition
     }
 
     /// The witnesses of `main` with their types, in the text's order.
