@@ -13,7 +13,7 @@ use Rattle.hl_syntax.specs.declared.rules.Rule.TheVariants.{K20}
 use Rattle.hl_syntax.specs.declared.tree.Item.{Item}
 use Rattle.simplicityhl.specs.Written.{Broken}
 use Rattle.hl_eval.specs.Bindings.{bindings_of}
-use Rattle.hl_files.specs.Entries.{AreValued, IsValued}
+use Rattle.hl_meaning.specs.Entries.{AreValued, IsValued}
 use Rattle.hl_files.specs.Reads.{typed_name}
 use Rattle.hl_meaning.specs.Scopes.{Binding}
 use Rattle.hl_rules.specs.Declared.{has_function}
@@ -24,7 +24,8 @@ use Rattle.hl_rules.specs.Walks as walks
 use Rattle.hl_typed.specs.Typed.{BreaksNothing}
 use Rattle.hl_typing.specs.Patterns.{Once}
 use Rattle.hl_progress.specs.Calls.{FitsCall, argument_type, function_of}
-use Rattle.hl_progress.specs.Held.{HasValue, IsValueOf}
+use Rattle.hl_meaning.specs.Entries.{IsValueOf}
+use Rattle.hl_progress.specs.Held.{HasValue}
 use Rattle.hl_typing.proofs.Every.{Every, every_of}
 use Rattle.hl_typing.proofs.Once.{neither, other_way}
 use Rattle.hl_progress.proofs.Programs.{witnesses_once}
@@ -80,7 +81,7 @@ have_values : (entries : List Entry) → Once (map typed_name entries) → Every
 have_values [] once valued = tt
 have_values (e ∷ entries) once valued =
     let one : Binding = record { name = e.name; value = e.value } in
-    let first : HasValue (one ∷ bindings_of entries) (typed_name e) = record { value = e.value; is = rw ((bytes_eq-Decides e.name e.name).1 refl) refl; fits = valued.0.of } in
+    let first : HasValue (one ∷ bindings_of entries) (typed_name e) = record { value = e.value; is = rw ((bytes_eq-Decides e.name e.name).1 refl) refl; fits = valued.0.value } in
     (first, all_later (bindings_of entries) one (map typed_name entries) once.0 (have_values entries once.1 valued.1))
 
 pub witnesses_valued : (program : Checked) (name : List ℕ) (names : List TypedName) (entries : List Entry) → BreaksNothing program → names ≡ wanted name program → AreValued entries → map typed_name entries ≡ names →

@@ -16,7 +16,7 @@ use Rattle.hl_syntax.specs.declared.tree.Param.{Param}
 use Rattle.hl_syntax.specs.declared.tree.TypeText.{TypeText}
 use Rattle.simplicityhl.specs.Kinds.{IsSound}
 use Rattle.simplicityhl.specs.Written.{Broken, walk, then_walk}
-use Rattle.hl_meaning.specs.Values.{is_sound}
+use Rattle.simplicityhl.specs.Kinds.{is_sound}
 use Rattle.hl_rules.specs.Declared.{Head, alias_walk, head_walk, params_walk, param_walk, result_walk, has_function, may_be}
 use Rattle.hl_rules.specs.Exprs.{expr_walk}
 use Rattle.hl_rules.specs.Names.{is_reserved, function_words, variable_words, alias_words}

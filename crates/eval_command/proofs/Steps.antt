@@ -10,7 +10,7 @@ use Rattle.hl_scope.specs.declared.refusal.CheckRefusal.TheVariants as check_ref
 use Rattle.hl_scope.specs.Checks as checks
 use Rattle.hl_data.specs.declared.value.Entry.{Entry}
 use Rattle.hl_data.specs.declared.value.HlValue.{HlValue}
-use Rattle.hl_files.specs.Reads.{Reads, ReadsWanted}
+use Rattle.hl_files.specs.Reads.{ReadsEntries, ReadsWanted}
 use Rattle.hl_files.specs.declared.refusal.TextRefusal.{TextRefusal}
 use Rattle.hl_files.specs.declared.refusal.TextRefusal.TheVariants as text_refusal
 use Rattle.hl_files.specs.declared.refusal.WantedRefusal.{WantedRefusal}
@@ -43,10 +43,10 @@ pub source_stops : (Next : List Item → Answer) (text : List ℕ) (stop : Stop)
 source_stops Next text stop is = stops_in (IsSource text (λ _. Never)) (IsSource text Next) stop (further_source Next text) is
 
 -- The parameters' entries.
-pub args_read : {G : Type 0} (file : List ℕ) (names : List (List ℕ)) (Next : List Entry → Answer) (entries : List Entry) (r : Result (String G) Stop) → Reads file names (Ok entries) → Gives (Next entries) r → Gives (IsArgs file names Next) r
+pub args_read : {G : Type 0} (file : List ℕ) (names : List (List ℕ)) (Next : List Entry → Answer) (entries : List Entry) (r : Result (String G) Stop) → ReadsEntries file names (Ok entries) → Gives (Next entries) r → Gives (IsArgs file names Next) r
 args_read file names Next entries r read given = gives_in (Next entries) (IsArgs file names Next) r (λ s o e a. record { found = Ok entries; read = read; answer = a }) given
 
-pub args_stop : (file : List ℕ) (names : List (List ℕ)) (Next : List Entry → Answer) (refusal : TextRefusal) (stop : Stop) → Reads file names (Err refusal) → StopsArgs refusal stop → Stops (IsArgs file names Next) stop
+pub args_stop : (file : List ℕ) (names : List (List ℕ)) (Next : List Entry → Answer) (refusal : TextRefusal) (stop : Stop) → ReadsEntries file names (Err refusal) → StopsArgs refusal stop → Stops (IsArgs file names Next) stop
 args_stop file names Next text_refusal.NotJson stop read is = refused (IsArgs file names Next) _ _ stop is (λ s o e a. record { found = Err text_refusal.NotJson; read = read; answer = a })
 args_stop file names Next (text_refusal.BadEntry name) stop read is = refused (IsArgs file names Next) _ _ stop is (λ s o e a. record { found = Err (text_refusal.BadEntry name); read = read; answer = a })
 args_stop file names Next (text_refusal.BadValue name) stop read is = refused (IsArgs file names Next) _ _ stop is (λ s o e a. record { found = Err (text_refusal.BadValue name); read = read; answer = a })
@@ -113,9 +113,9 @@ argument_of_stops found f kind input Next stop is typed stopped =
     rw is (argument_stops (argument_type f.params) input Next stop (subst (λ k. Stops (IsArgument k input (λ _. Never)) stop) typed stopped))
 
 -- The same for files and names that are equal.
-pub args_stop_at : (file file' : List ℕ) (names names' : List (List ℕ)) (Next : List Entry → Answer) (refusal : TextRefusal) (stop : Stop) → file ≡ file' → names ≡ names' → Reads file names (Err refusal) → StopsArgs refusal stop → Stops (IsArgs file' names' Next) stop
+pub args_stop_at : (file file' : List ℕ) (names names' : List (List ℕ)) (Next : List Entry → Answer) (refusal : TextRefusal) (stop : Stop) → file ≡ file' → names ≡ names' → ReadsEntries file names (Err refusal) → StopsArgs refusal stop → Stops (IsArgs file' names' Next) stop
 args_stop_at file file' names names' Next refusal stop same equal read is =
-    args_stop file' names' Next refusal stop (subst (λ f. Reads f names' (Err refusal)) same (subst (λ ns. Reads file ns (Err refusal)) equal read)) is
+    args_stop file' names' Next refusal stop (subst (λ f. ReadsEntries f names' (Err refusal)) same (subst (λ ns. ReadsEntries file ns (Err refusal)) equal read)) is
 
 pub witnesses_stop_at : (file file' : List ℕ) (names names' : List TypedName) (Next : List Entry → Answer) (refusal : WantedRefusal) (stop : Stop) → file ≡ file' → names ≡ names' → ReadsWanted file names (Err refusal) → StopsWitnesses refusal stop → Stops (IsWitnesses file' names' Next) stop
 witnesses_stop_at file file' names names' Next refusal stop same equal read is =

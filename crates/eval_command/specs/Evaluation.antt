@@ -6,7 +6,7 @@ use Rattle.hl_data.specs.declared.value.HlValue.{HlValue}
 use Rattle.hl_data.specs.declared.value.HlValue.TheVariants as value
 use Rattle.hl_eval.specs.Bindings.{bindings_of}
 use Rattle.hl_files.specs.Params.{param_names}
-use Rattle.hl_files.specs.Reads.{Reads, ReadsWanted}
+use Rattle.hl_files.specs.Reads.{ReadsEntries, ReadsWanted}
 use Rattle.hl_files.specs.declared.refusal.TextRefusal.{TextRefusal}
 use Rattle.hl_files.specs.declared.refusal.TextRefusal.TheVariants as text_refusal
 use Rattle.hl_files.specs.declared.refusal.WantedRefusal.{WantedRefusal}
@@ -57,7 +57,7 @@ AfterArgs Next (Err text_refusal.OutOfMemory) = Never
 
 pub record IsArgs (file : List ℕ) (names : List (List ℕ)) (Next : List Entry → Answer) (status : Status) (out err : List ℕ) : Type 0 where
   pub found : Result (List Entry) TextRefusal
-  pub read : Reads file names found
+  pub read : ReadsEntries file names found
   pub answer : AfterArgs Next found status out err
 
 -- Rules and limits.

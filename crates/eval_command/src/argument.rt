@@ -3,7 +3,7 @@
 ghost use Rattle.std.specs.Prelude.{◌≡◌, ◌↔◌, ◌++◌, [], map, IsTrue, IfOk};
 ghost use Rattle.std.specs.Option.{option_copied};
 ghost use Rattle.hl_progress.specs.Calls.{argument_type};
-ghost use Rattle.hl_progress.specs.Held.{IsValueOf};
+ghost use Rattle.hl_meaning.specs.Entries.{IsValueOf};
 ghost use Rattle.hl_rules.specs.Same.{unit_type};
 ghost use Rattle.simplicityhl.specs.Kinds.{IsSound};
 ghost use Rattle.eval_command.specs.Parts.{IsArgumentRead};

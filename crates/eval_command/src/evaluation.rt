@@ -8,7 +8,7 @@ ghost use Rattle.hl_progress.specs.Held.{HasValue};
 ghost use Rattle.hl_eval.specs.Bindings.{bindings_of};
 ghost use Rattle.hl_meaning.specs.Mean.{meaning};
 ghost use Rattle.hl_rules.specs.Declared.{has_function};
-ghost use Rattle.hl_rules.specs.Entries.{AreValued};
+ghost use Rattle.hl_meaning.specs.Entries.{AreValued};
 ghost use Rattle.hl_rules.specs.Places.{is_main};
 ghost use Rattle.command_outcome.specs.Stops.{Gives};
 ghost use Rattle.eval_command.specs.Evaluation.{AfterMeaning, FromArgs, FromArgument, FromRules, FromWitnesses, IsEvaluation, object_of, wanted};

@@ -15,7 +15,7 @@ use Rattle.hl_data.specs.declared.value.Entry.{Entry}
 use Rattle.simplicityhl.specs.Written.{Broken, breaks_rule, breaks_limit, then_walk}
 use Rattle.hl_rules.proofs.Items.{answered}
 use Rattle.hl_rules.specs.Breaks.{Breaks}
-use Rattle.hl_rules.specs.Entries.{AreValued}
+use Rattle.hl_meaning.specs.Entries.{AreValued}
 use Rattle.hl_rules.specs.Declared.{Head, alias_walk, has_function, head_walk}
 use Rattle.hl_rules.specs.Exprs.{expr_walk}
 use Rattle.hl_rules.specs.Places.{is_main}

@@ -2,7 +2,7 @@
 
 ghost use Rattle.std.specs.Prelude.{◌≡◌, [], IfOk};
 ghost use Rattle.hl_rules.specs.Breaks.{Breaks};
-ghost use Rattle.hl_rules.specs.Entries.{AreValued};
+ghost use Rattle.hl_meaning.specs.Entries.{AreValued};
 ghost use Rattle.hl_rules.specs.Programs.{checked, item_walk, items_walk};
 ghost use Rattle.hl_scope.specs.Contexts.{IsSoundFunction};
 ghost use Rattle.hl_scope.specs.Checks.{Checks, ChecksAs};

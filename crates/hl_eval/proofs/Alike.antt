@@ -2,7 +2,8 @@
 use Rattle.std.proofs.Common.{◌≡◌, Bool, true, false, ◌&&◌, refl}
 use Rattle.hl_syntax.specs.declared.kinds.HlType.{HlType}
 use Rattle.hl_meaning.specs.Mean.{are_alike}
-use Rattle.hl_meaning.specs.Values.{is_sound, same_kind}
+use Rattle.simplicityhl.specs.Kinds.{is_sound}
+use Rattle.hl_meaning.specs.Values.{same_kind}
 use Rattle.simplicityhl.specs.Kinds.{form}
 use Rattle.hl_types.proofs.Alike.{same_kind-true}
 

@@ -8,7 +8,8 @@ use Rattle.hl_meaning.specs.Scopes.{Binding}
 use Rattle.hl_rules.specs.Programs.{Checked}
 use Rattle.hl_progress.proofs.Programs.{checked_answers}
 use Rattle.hl_progress.specs.Calls.{FitsCall}
-use Rattle.hl_progress.specs.Held.{HasAnswer, IsValueOf}
+use Rattle.hl_meaning.specs.Entries.{IsValueOf}
+use Rattle.hl_progress.specs.Held.{HasAnswer}
 use Rattle.hl_typed.specs.Typed.{BreaksNothing}
 use Rattle.hl_eval.specs.Evaluated.{IsResultOf}
 

@@ -12,7 +12,8 @@ use Rattle.simplicity.specs.Types.{Value, UnitValue, Inl, Inr, Pair}
 use Rattle.simplicity.specs.Tuples.{tuple_value}
 use Rattle.simplicityhl.specs.Kinds.{bound_level, is_bound}
 use Rattle.hl_types.proofs.Parts.{bound_parts, sound-List}
-use Rattle.hl_meaning.specs.Values.{encoded, at_each, at_all, list_value, beside, is_sound}
+use Rattle.simplicityhl.specs.Kinds.{is_sound}
+use Rattle.hl_meaning.specs.Values.{encoded, at_each, at_all, list_value, beside}
 use Rattle.hl_values.proofs.Coding.{besides}
 use Rattle.hl_values.proofs.Encoding.{encoded-List, kinds_at}
 

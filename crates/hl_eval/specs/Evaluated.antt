@@ -5,7 +5,7 @@ use Rattle.hl_data.specs.declared.value.HlValue.{HlValue}
 use Rattle.hl_meaning.specs.Answer.{Answer, gives, fails}
 use Rattle.hl_rules.specs.Programs.{Checked}
 use Rattle.hl_progress.specs.Calls.{function_of}
-use Rattle.hl_progress.specs.Held.{IsValueOf}
+use Rattle.hl_meaning.specs.Entries.{IsValueOf}
 use Rattle.hl_eval.specs.declared.refusal.EvalRefusal.{EvalRefusal}
 use Rattle.hl_eval.specs.declared.refusal.EvalRefusal.TheVariants as refusal
 

@@ -14,9 +14,9 @@ HasFault answer fault.NoAnswer = answer ≡ stuck
 HasFault answer fault.OutOfMemory = Unit {0}
 
 -- the value exactly where the answer has it
-abbrev pub Answers : {A : Type 0} → Answer A → Result A EvalFault → Type 0
-Answers answer (Ok v) = answer ≡ gives v
-Answers answer (Err e) = HasFault answer e
+abbrev pub AnswersMeaning : {A : Type 0} → Answer A → Result A EvalFault → Type 0
+AnswersMeaning answer (Ok v) = answer ≡ gives v
+AnswersMeaning answer (Err e) = HasFault answer e
 
 -- a fault because no such scope is there, or for want of memory
 abbrev pub IsLacking : Option Scope → EvalFault → Type 0

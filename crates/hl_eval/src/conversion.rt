@@ -1,5 +1,5 @@
 ghost use Rattle.std.specs.Prelude.{◌≡◌, IfOk};
-ghost use Rattle.hl_eval.specs.Outcome.{Answers};
+ghost use Rattle.hl_eval.specs.Outcome.{AnswersMeaning};
 ghost use Rattle.hl_meaning.specs.Mean.{are_alike, converted};
 
 use crate::fault::EvalFault;
@@ -18,7 +18,7 @@ pub(crate) fn convert(
     from: &HlType,
     to: &HlType,
 ) -> Result<HlValue, EvalFault>
-    ensures { Answers (converted from.now to.now value.now) result }
+    ensures { AnswersMeaning (converted from.now to.now value.now) result }
 {
     if !are_alike(alloc, from, to)? {
         return Err(EvalFault::NoAnswer);

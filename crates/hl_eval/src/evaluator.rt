@@ -25,7 +25,7 @@ impl Evaluator<'_> {
     ghost use Rattle.hl_meaning.specs.Loops.{is_counter_width};
     ghost use Rattle.hl_meaning.specs.Mean.{function_of, counter_width};
     ghost use Rattle.hl_eval.specs.Here.{witness_in, functions_in, ForFunction, IsPlaceOf};
-    ghost use Rattle.hl_eval.specs.Outcome.{Answers};
+    ghost use Rattle.hl_eval.specs.Outcome.{AnswersMeaning};
     ghost use Rattle.hl_eval.specs.declared.fault.EvalFault.TheVariants.{NoAnswer};
 
     /// The place of the function that a name means.
@@ -54,7 +54,7 @@ impl Evaluator<'_> {
     /// The width of the counter of the function at a place.
     pub(crate) fn counter_width_of(&self, place: usize) -> Result<u16, EvalFault>
         requires { place < length self.now.functions.now }
-        ensures width { ForFunction self.now place (λ f. Answers (known (counter_width f.params)) result) }
+        ensures width { ForFunction self.now place (λ f. AnswersMeaning (known (counter_width f.params)) result) }
         ensures counter { IfOk result (λ width. IsTrue (is_counter_width width)) }
     {
         counter_width(&self.functions[place].params)
@@ -62,7 +62,7 @@ impl Evaluator<'_> {
 
     /// A copy of the value of the witness of a name.
     pub(crate) fn witness_of(&self, name: &Text) -> Result<HlValue, EvalFault>
-        ensures { Answers (known (meant name.now (witness_in self.now))) result }
+        ensures { AnswersMeaning (known (meant name.now (witness_in self.now))) result }
     {
         match entry_of(self.witness, name.as_str()) {
             Some(entry) => Ok(copy_value(self.alloc, &entry.value)?),

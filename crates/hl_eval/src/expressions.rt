@@ -5,7 +5,7 @@ ghost use Rattle.hl_meaning.specs.Loops.{folded, counted, is_counter_width};
 ghost use Rattle.hl_meaning.specs.Mean.{all_in, converted, loop_over, counting_loop, block_of, last_of, matched, taken, or_after, mean_statement, mean_arm};
 ghost use Rattle.hl_data.specs.declared.value.HlValue.TheViews.{out-HlValue};
 ghost use Rattle.hl_eval.specs.Here.{witness_in, functions_in, mean_in, gathered_of, ForFunction};
-ghost use Rattle.hl_eval.specs.Outcome.{Answers, Goes};
+ghost use Rattle.hl_eval.specs.Outcome.{AnswersMeaning, Goes};
 ghost use Rattle.hl_eval.specs.Turned.{turned};
 ghost use Rattle.hl_eval.specs.Uses.{items_in, use_of};
 
@@ -31,7 +31,7 @@ impl Evaluator<'_> {
     /// The value of an expression.
     #[cycle(evaluation)]
     pub(crate) fn expression(&self, e: &TypedExpr, scope: &mut Scope) -> Result<HlValue, EvalFault>
-        ensures value { Answers (mean_in self.now e.now scope.old) result }
+        ensures value { AnswersMeaning (mean_in self.now e.now scope.old) result }
         ensures scope { IfOk result (λ _. scope.new ≡ scope.old) }
     {
         match &e.form {
@@ -75,7 +75,7 @@ impl Evaluator<'_> {
     /// What comes of the value of an expression in a use.
     #[cycle(evaluation)]
     fn used(&self, how: Use, part: &TypedExpr, scope: &mut Scope) -> Result<HlValue, EvalFault>
-        ensures value { Answers (and_then (mean_in self.now part.now scope.old) (use_of how)) result }
+        ensures value { AnswersMeaning (and_then (mean_in self.now part.now scope.old) (use_of how)) result }
         ensures scope { IfOk result (λ _. scope.new ≡ scope.old) }
     {
         let value = self.expression(part, scope)?;
@@ -91,7 +91,7 @@ impl Evaluator<'_> {
         part: &TypedExpr,
         scope: &mut Scope,
     ) -> Result<HlValue, EvalFault>
-        ensures value { Answers
+        ensures value { AnswersMeaning
             (and_then (mean_in self.now part.now scope.old) (converted from.now to.now)) result }
         ensures scope { IfOk result (λ _. scope.new ≡ scope.old) }
     {
@@ -107,7 +107,7 @@ impl Evaluator<'_> {
         parts: &TypedExprs,
         scope: &mut Scope,
     ) -> Result<HlValue, EvalFault>
-        ensures value { Answers
+        ensures value { AnswersMeaning
             (and_then (all_in (map (mean_in self.now) parts.now) scope.old) (gathered_of self.now how.entry))
             result }
         ensures scope { IfOk result (λ _. scope.new ≡ scope.old) }
@@ -135,7 +135,7 @@ impl Evaluator<'_> {
         start: &TypedExpr,
         scope: &mut Scope,
     ) -> Result<HlValue, EvalFault>
-        ensures value { Answers
+        ensures value { AnswersMeaning
             (loop_over (functions_in self.now) (witness_in self.now) (items_in from) name.now
             (mean_in self.now items.now) (mean_in self.now start.now) scope.old)
             result }
@@ -157,7 +157,7 @@ impl Evaluator<'_> {
         context: &TypedExpr,
         scope: &mut Scope,
     ) -> Result<HlValue, EvalFault>
-        ensures value { Answers
+        ensures value { AnswersMeaning
             (counting_loop (functions_in self.now) (witness_in self.now) name.now
             (mean_in self.now start.now) (mean_in self.now context.now) scope.old)
             result }
@@ -173,7 +173,7 @@ impl Evaluator<'_> {
     /// The values of expressions, from the first.
     #[cycle(evaluation)]
     fn parts(&self, parts: &TypedExprs, scope: &mut Scope) -> Result<HlValues, EvalFault>
-        ensures values { Answers (all_in (map (mean_in self.now) parts.now) scope.old) result }
+        ensures values { AnswersMeaning (all_in (map (mean_in self.now) parts.now) scope.old) result }
         ensures scope { IfOk result (λ _. scope.new ≡ scope.old) }
     {
         let mut values = HlValues::new(self.alloc);
@@ -191,7 +191,7 @@ impl Evaluator<'_> {
         last: &Option<Boxed<TypedExpr>>,
         scope: &mut Scope,
     ) -> Result<HlValue, EvalFault>
-        ensures value { Answers
+        ensures value { AnswersMeaning
             (block_of (map (mean_statement (functions_in self.now) (witness_in self.now)) statements.now)
             (option_map (mean_in self.now) last.now) scope.old)
             result }
@@ -209,7 +209,7 @@ impl Evaluator<'_> {
     /// The value of a block's last expression; the tuple of nothing where there is none.
     #[cycle(evaluation)]
     fn last(&self, last: &Option<Boxed<TypedExpr>>, scope: &mut Scope) -> Result<HlValue, EvalFault>
-        ensures value { Answers (last_of (option_map (mean_in self.now) last.now) scope.old) result }
+        ensures value { AnswersMeaning (last_of (option_map (mean_in self.now) last.now) scope.old) result }
         ensures scope { IfOk result (λ _. scope.new ≡ scope.old) }
     {
         match last {
@@ -244,7 +244,7 @@ impl Evaluator<'_> {
         arms: &TypedArms,
         scope: &mut Scope,
     ) -> Result<HlValue, EvalFault>
-        ensures value { Answers
+        ensures value { AnswersMeaning
             (and_then (mean_in self.now part.now scope.old) (λ v.
             matched (map (mean_arm (functions_in self.now) (witness_in self.now)) arms.now)
             (out-HlValue v) scope.old))
@@ -264,7 +264,7 @@ impl Evaluator<'_> {
     #[cycle(evaluation)]
     fn arm(&self, arm: &TypedArm, value: HlValue, scope: &mut Scope) -> Result<HlValue, EvalFault>
         requires { IsTrue (is_some (taken (out-TypedArm arm.now).side (out-HlValue value))) }
-        ensures value { Answers
+        ensures value { AnswersMeaning
             (or_after (taken (out-TypedArm arm.now).side (out-HlValue value))
             (mean_in self.now (out-TypedArm arm.now).body) stuck scope.old)
             result }
@@ -281,7 +281,7 @@ impl Evaluator<'_> {
     #[cycle(evaluation)]
     pub(crate) fn run(&self, place: usize, arguments: HlValues) -> Result<HlValue, EvalFault>
         requires { place < length self.now.functions.now }
-        ensures { ForFunction self.now place (λ f. Answers (f.run arguments) result) }
+        ensures { ForFunction self.now place (λ f. AnswersMeaning (f.run arguments) result) }
     {
         let function = &self.functions[place];
         let before = Evaluator {
@@ -299,7 +299,7 @@ impl Evaluator<'_> {
     #[cycle(evaluation)]
     fn fold(&self, place: usize, items: HlValues, start: HlValue) -> Result<HlValue, EvalFault>
         requires { place < length self.now.functions.now }
-        ensures { ForFunction self.now place (λ f. Answers (folded f.run items start) result) }
+        ensures { ForFunction self.now place (λ f. AnswersMeaning (folded f.run items start) result) }
     {
         let mut made = start;
         'items: for item in items.into_vec() {
@@ -320,7 +320,7 @@ impl Evaluator<'_> {
         requires place { place < length self.now.functions.now }
         requires width { IsTrue (is_counter_width width) }
         ensures { ForFunction self.now place (λ f.
-            Answers (counted f.run width context.now (2 ^ width) 0 start) result) }
+            AnswersMeaning (counted f.run width context.now (2 ^ width) 0 start) result) }
     {
         let mut made = start;
         'turns: for counter in 0..1u32 << width {
@@ -343,7 +343,7 @@ impl Evaluator<'_> {
         counter: HlValue,
     ) -> Result<Turn, EvalFault>
         requires { place < length self.now.functions.now }
-        ensures { ForFunction self.now place (λ f. Answers
+        ensures { ForFunction self.now place (λ f. AnswersMeaning
             (and_then (f.run (made ∷ context.now ∷ counter ∷ [])) (λ v. turned (out-HlValue v)))
             result) }
     {

@@ -4,7 +4,7 @@ ghost use Rattle.jet_table.specs.Rows.{kind_of, kinds_of};
 ghost use Rattle.jets.specs.Jet.{width_of};
 ghost use Rattle.hl_meaning.specs.Jets.{jet_answer, number_at, result_of};
 ghost use Rattle.hl_eval.specs.Complete.{IsComplete};
-ghost use Rattle.hl_eval.specs.Outcome.{Answers};
+ghost use Rattle.hl_eval.specs.Outcome.{AnswersMeaning};
 ghost use Rattle.word_math.specs.Answer.{results_of};
 ghost use Rattle.hl_eval.specs.Valued.{valued, valued_at, IsFailing};
 ghost use Rattle.hl_eval.specs.Worded.{AreWords, IsUnlike};
@@ -24,7 +24,7 @@ pub(crate) fn call_jet(
     arguments: HlValues,
 ) -> Result<HlValue, EvalFault>
     requires { IsComplete jets.now }
-    ensures { Answers (jet_answer name.now arguments) result }
+    ensures { AnswersMeaning (jet_answer name.now arguments) result }
 {
     let Some(place) = jets.find(name.as_str()) else {
         return Err(EvalFault::NoAnswer);

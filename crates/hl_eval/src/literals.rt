@@ -5,7 +5,7 @@ ghost use Rattle.hl_meaning.specs.Answer.{known};
 ghost use Rattle.hl_meaning.specs.Literals.{literal_value};
 ghost use Rattle.hl_meaning.specs.Mean.{number_at};
 ghost use Rattle.hl_meaning.specs.Values.{word_at};
-ghost use Rattle.hl_eval.specs.Outcome.{Answers};
+ghost use Rattle.hl_eval.specs.Outcome.{AnswersMeaning};
 
 use crate::fault::EvalFault;
 use hl_data::HlValue;
@@ -15,7 +15,7 @@ use lists::Text;
 
 /// The number of a literal at a type of numbers.
 pub(crate) fn literal(kind: &HlType, word: &Text) -> Result<HlValue, EvalFault>
-    ensures { Answers (number_at (out-HlType kind.now) word.now) result }
+    ensures { AnswersMeaning (number_at (out-HlType kind.now) word.now) result }
 {
     match kind {
         HlType::UInt(width) => number_spelled(*width, word.as_str()),
@@ -32,7 +32,7 @@ fn is_word_width(width: u16) -> bool
 
 /// The number that a literal spells, where it fits the width.
 fn number_spelled(width: u16, word: &str) -> Result<HlValue, EvalFault>
-    ensures { Answers (known (word_at width (literal_value word.now))) result }
+    ensures { AnswersMeaning (known (word_at width (literal_value word.now))) result }
 {
     if !is_word_width(width) {
         return Err(EvalFault::NoAnswer);

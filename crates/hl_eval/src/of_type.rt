@@ -1,6 +1,7 @@
 ghost use Rattle.std.specs.Prelude.{◌≡◌, map, is_some, IsTrue};
 ghost use Rattle.std.specs.List.{list_all};
-ghost use Rattle.hl_meaning.specs.Values.{at_all, at_each, encoded, is_sound};
+ghost use Rattle.simplicityhl.specs.Kinds.{is_sound};
+ghost use Rattle.hl_meaning.specs.Values.{at_all, at_each, encoded};
 
 use hl_data::{HlValue, HlValues};
 use hl_syntax::{HlType, HlTypes};

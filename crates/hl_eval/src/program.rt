@@ -1,6 +1,6 @@
 ghost use Rattle.hl_meaning.specs.Mean.{meaning};
 ghost use Rattle.hl_eval.specs.Bindings.{bindings_of};
-ghost use Rattle.hl_eval.specs.Outcome.{Answers};
+ghost use Rattle.hl_eval.specs.Outcome.{AnswersMeaning};
 
 use crate::evaluator::Evaluator;
 use crate::fault::EvalFault;
@@ -22,7 +22,7 @@ pub fn evaluate(
     argument: &HlValue,
     witness: &Entries,
 ) -> Result<HlValue, EvalFault>
-    ensures { Answers (meaning functions.now name.now (bindings_of witness.now) argument.now) result }
+    ensures { AnswersMeaning (meaning functions.now name.now (bindings_of witness.now) argument.now) result }
 {
     let jets = profile();
     let evaluator = Evaluator {

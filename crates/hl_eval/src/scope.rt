@@ -1,7 +1,7 @@
 ghost use Rattle.std.specs.Prelude.{◌≡◌, ◌-◌, ◌≤◌, [], ◌∷◌, length, drop, reverse, Some, None, find, bytes_eq, option_map, MatchOption, OnOk};
 ghost use Rattle.hl_meaning.specs.Answer.{known};
 ghost use Rattle.hl_meaning.specs.Scopes.{meant};
-ghost use Rattle.hl_eval.specs.Outcome.{Answers};
+ghost use Rattle.hl_eval.specs.Outcome.{AnswersMeaning};
 
 use crate::copy::copy_value;
 use crate::fault::EvalFault;
@@ -95,7 +95,7 @@ fn last_of<'a>(bindings: &'a [Bound], name: &str) -> Option<&'a Bound>
 
 /// A copy of the value that a name means in a scope.
 pub(crate) fn value_of(alloc: Global, scope: &Scope, name: &Text) -> Result<HlValue, EvalFault>
-    ensures { Answers (known (meant name.now scope.now)) result }
+    ensures { AnswersMeaning (known (meant name.now scope.now)) result }
 {
     match scope.find(name) {
         Some(value) => Ok(copy_value(alloc, value)?),

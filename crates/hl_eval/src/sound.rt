@@ -1,6 +1,6 @@
 ghost use Rattle.std.specs.Prelude.{◌≡◌, map};
 ghost use Rattle.std.specs.List.{list_all};
-ghost use Rattle.hl_meaning.specs.Values.{is_sound};
+ghost use Rattle.simplicityhl.specs.Kinds.{is_sound};
 ghost use Rattle.simplicityhl.specs.Kinds.{is_width};
 
 use hl_syntax::{HlType, HlTypes};

@@ -1,5 +1,5 @@
 ghost use Rattle.hl_data.specs.declared.value.HlValue.TheViews.{out-HlValue};
-ghost use Rattle.hl_eval.specs.Outcome.{Answers};
+ghost use Rattle.hl_eval.specs.Outcome.{AnswersMeaning};
 ghost use Rattle.hl_eval.specs.Turned.{turned};
 
 use crate::fault::EvalFault;
@@ -17,7 +17,7 @@ pub(crate) enum Turn {
 
 /// What a turn comes to whose function gave a value.
 pub(crate) fn turned(value: HlValue) -> Result<Turn, EvalFault>
-    ensures { Answers (turned (out-HlValue value)) result }
+    ensures { AnswersMeaning (turned (out-HlValue value)) result }
 {
     match value {
         HlValue::Left(last) => Ok(Turn::Last(last)),

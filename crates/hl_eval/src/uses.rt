@@ -1,6 +1,6 @@
 ghost use Rattle.hl_data.specs.declared.value.HlValue.TheViews.{out-HlValue};
 ghost use Rattle.hl_meaning.specs.Answer.{known};
-ghost use Rattle.hl_eval.specs.Outcome.{Answers};
+ghost use Rattle.hl_eval.specs.Outcome.{AnswersMeaning};
 ghost use Rattle.hl_eval.specs.Uses.{items_in, use_of};
 
 use crate::fault::EvalFault;
@@ -44,7 +44,7 @@ pub(crate) enum Items {
 
 /// What comes of a value in a use.
 pub(crate) fn used(alloc: Global, how: Use, value: HlValue) -> Result<HlValue, EvalFault>
-    ensures { Answers (use_of how value) result }
+    ensures { AnswersMeaning (use_of how value) result }
 {
     match how {
         Use::Assert => asserted(alloc, value),
@@ -61,7 +61,7 @@ pub(crate) fn used(alloc: Global, how: Use, value: HlValue) -> Result<HlValue, E
 
 /// The items of a value that a loop goes over.
 pub(crate) fn loop_items(from: Items, value: HlValue) -> Result<HlValues, EvalFault>
-    ensures { Answers (known (items_in from (out-HlValue value))) result }
+    ensures { AnswersMeaning (known (items_in from (out-HlValue value))) result }
 {
     match from {
         Items::List => list_items(value),

@@ -5,7 +5,7 @@ ghost use Rattle.hl_meaning.specs.Answer.{known};
 ghost use Rattle.hl_meaning.specs.Values.{word_at};
 ghost use Rattle.hl_meaning.specs.Loops.{is_counter_width};
 ghost use Rattle.hl_meaning.specs.Mean.{asserted, unwrapped, unwrapped_left, unwrapped_right, none_tested, items_in_list, items_in_array, counter_width, parts_of, taken};
-ghost use Rattle.hl_eval.specs.Outcome.{Answers};
+ghost use Rattle.hl_eval.specs.Outcome.{AnswersMeaning};
 
 use crate::copy::{copy_value, copy_values};
 use crate::fault::EvalFault;
@@ -16,7 +16,7 @@ use word_math::Word;
 
 /// The tuple of nothing for true; failure for false.
 pub(crate) fn asserted(alloc: Global, value: HlValue) -> Result<HlValue, EvalFault>
-    ensures { Answers (asserted (out-HlValue value)) result }
+    ensures { AnswersMeaning (asserted (out-HlValue value)) result }
 {
     match value {
         HlValue::Bool(true) => Ok(HlValue::Tuple(HlValues::new(alloc))),
@@ -27,7 +27,7 @@ pub(crate) fn asserted(alloc: Global, value: HlValue) -> Result<HlValue, EvalFau
 
 /// The value in a `Some`; failure for `None`.
 pub(crate) fn unwrapped(value: HlValue) -> Result<HlValue, EvalFault>
-    ensures { Answers (unwrapped (out-HlValue value)) result }
+    ensures { AnswersMeaning (unwrapped (out-HlValue value)) result }
 {
     match value {
         HlValue::Some(part) => Ok(part.into_inner()),
@@ -38,7 +38,7 @@ pub(crate) fn unwrapped(value: HlValue) -> Result<HlValue, EvalFault>
 
 /// The value in a `Left`; failure for a `Right`.
 pub(crate) fn unwrapped_left(value: HlValue) -> Result<HlValue, EvalFault>
-    ensures { Answers (unwrapped_left (out-HlValue value)) result }
+    ensures { AnswersMeaning (unwrapped_left (out-HlValue value)) result }
 {
     match value {
         HlValue::Left(part) => Ok(part.into_inner()),
@@ -49,7 +49,7 @@ pub(crate) fn unwrapped_left(value: HlValue) -> Result<HlValue, EvalFault>
 
 /// The value in a `Right`; failure for a `Left`.
 pub(crate) fn unwrapped_right(value: HlValue) -> Result<HlValue, EvalFault>
-    ensures { Answers (unwrapped_right (out-HlValue value)) result }
+    ensures { AnswersMeaning (unwrapped_right (out-HlValue value)) result }
 {
     match value {
         HlValue::Right(part) => Ok(part.into_inner()),
@@ -60,7 +60,7 @@ pub(crate) fn unwrapped_right(value: HlValue) -> Result<HlValue, EvalFault>
 
 /// Whether an option is `None`.
 pub(crate) fn none_tested(value: HlValue) -> Result<HlValue, EvalFault>
-    ensures { Answers (none_tested (out-HlValue value)) result }
+    ensures { AnswersMeaning (none_tested (out-HlValue value)) result }
 {
     match value {
         HlValue::Nothing => Ok(HlValue::Bool(true)),
@@ -71,7 +71,7 @@ pub(crate) fn none_tested(value: HlValue) -> Result<HlValue, EvalFault>
 
 /// The items of a list.
 pub(crate) fn list_items(value: HlValue) -> Result<HlValues, EvalFault>
-    ensures { Answers (known (items_in_list (out-HlValue value))) result }
+    ensures { AnswersMeaning (known (items_in_list (out-HlValue value))) result }
 {
     match value {
         HlValue::List(items) => Ok(items),
@@ -81,7 +81,7 @@ pub(crate) fn list_items(value: HlValue) -> Result<HlValues, EvalFault>
 
 /// The items of an array.
 pub(crate) fn array_items(value: HlValue) -> Result<HlValues, EvalFault>
-    ensures { Answers (known (items_in_array (out-HlValue value))) result }
+    ensures { AnswersMeaning (known (items_in_array (out-HlValue value))) result }
 {
     match value {
         HlValue::Array(items) => Ok(items),
@@ -105,7 +105,7 @@ pub(crate) fn takes(side: &TypedSide, value: &HlValue) -> bool
 
 /// The width of a loop's counter, the third parameter of its function.
 pub(crate) fn counter_width(params: &Wanted) -> Result<u16, EvalFault>
-    ensures width { Answers (known (counter_width params.now)) result }
+    ensures width { AnswersMeaning (known (counter_width params.now)) result }
     ensures counter { IfOk result (λ width. IsTrue (is_counter_width width)) }
 {
     match params.as_slice() {
@@ -119,7 +119,7 @@ pub(crate) fn counter_width(params: &Wanted) -> Result<u16, EvalFault>
 
 /// A number of a width, where it fits.
 pub(crate) fn number(width: u16, number: u32) -> Result<HlValue, EvalFault>
-    ensures { Answers (known (word_at width number)) result }
+    ensures { AnswersMeaning (known (word_at width number)) result }
 {
     match Word::new(width, 0, u128::from(number)) {
         Some(word) => Ok(HlValue::Number(word)),
@@ -157,7 +157,7 @@ pub(crate) fn argument_parts(
     params: &Wanted,
     argument: &HlValue,
 ) -> Result<HlValues, EvalFault>
-    ensures { Answers (known (parts_of params.now argument.now)) result }
+    ensures { AnswersMeaning (known (parts_of params.now argument.now)) result }
 {
     match params.as_slice() {
         [_] => {

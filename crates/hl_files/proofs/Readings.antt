@@ -12,12 +12,12 @@ use Rattle.hl_files.specs.declared.refusal.TextRefusal.TheVariants as refusal
 use Rattle.hl_files.specs.declared.refusal.WantedRefusal.{WantedRefusal}
 use Rattle.hl_files.specs.declared.refusal.WantedRefusal.TheVariants as wanted
 use Rattle.hl_files.specs.Objects.{IsObject}
-use Rattle.hl_files.specs.Reads.{AreNamed, FindsAt, Reads, WantedAt, ReadsWanted, typed_name}
+use Rattle.hl_files.specs.Reads.{AreNamed, FindsAt, ReadsEntries, WantedAt, ReadsWanted, typed_name}
 use Rattle.hl_files.specs.Turns.{before, Then, Always, InTurn}
-use Rattle.hl_files.specs.Entries.{IsValued, AreValued}
+use Rattle.hl_meaning.specs.Entries.{IsValued, AreValued}
 use Rattle.hl_files.proofs.Turning.{Passed, passed_some, never}
 
-pub reads_from : (text : List ℕ) (names : List (List ℕ)) (file : Data) (r : Result (List Entry) TextRefusal) → IsObject text file → InTurn (FindsAt file) names r → Reads text names r
+pub reads_from : (text : List ℕ) (names : List (List ℕ)) (file : Data) (r : Result (List Entry) TextRefusal) → IsObject text file → InTurn (FindsAt file) names r → ReadsEntries text names r
 reads_from text names file (Err refusal.NotJson) is h = absurd (never refusal.NotJson (FindsAt file) (λ x g. g) names h)
 reads_from text names file (Err refusal.OutOfMemory) is h = tt
 reads_from text names file r is h = (file, is, h)

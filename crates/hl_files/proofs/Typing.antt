@@ -13,7 +13,7 @@ use Rattle.hl_grammar.proofs.Whole.{one_tree}
 use Rattle.hl_files.specs.declared.texts.EntryRefusal.{EntryRefusal}
 use Rattle.hl_files.specs.declared.texts.EntryRefusal.TheVariants.{NotEntry, OutOfMemory}
 use Rattle.serde_json.specs.Data.{Data}
-use Rattle.hl_files.specs.Answers.{Answers, FindsTyped}
+use Rattle.hl_files.specs.Answers.{AnswersEntry, FindsTyped}
 use Rattle.hl_files.specs.Entries.{IsTypeText}
 use Rattle.hl_files.specs.Objects.{text_at}
 
@@ -39,7 +39,7 @@ one_type_text text a b h k = let e = sym h.walked ∙ the_tree text h.found h.tr
 
 -- what the walk of the tree answers, and what reading the text does
 pub type_answered : (text : List ℕ) (ts us : List Token) (tree other : TypeText) (r : Result HlType EntryRefusal) → tokens text ≡ Ok ts → us ≡ ts → IsTree us tree → other ≡ tree →
-    Answers (λ kind. walk [] other ≡ Ok kind) r → Answers (IsTypeText text) r
+    AnswersEntry (λ kind. walk [] other ≡ Ok kind) r → AnswersEntry (IsTypeText text) r
 type_answered text ts us tree other (Ok kind) lexed same stands is h =
     record { found = us; tree = other; lexed = lexed ∙ ap Ok (sym same); stands = rw is stands; walked = h }
 type_answered text ts us tree other (Err NotEntry) lexed same stands is h =
@@ -47,13 +47,13 @@ type_answered text ts us tree other (Err NotEntry) lexed same stands is h =
 type_answered text ts us tree other (Err OutOfMemory) lexed same stands is h = tt
 
 -- tokens without a tree
-pub tree_refused : (text : List ℕ) (ts us : List Token) (e : EntryRefusal) → tokens text ≡ Ok ts → us ≡ ts → Answers (IsTree us) (Err e) → Answers (IsTypeText text) (Err e)
+pub tree_refused : (text : List ℕ) (ts us : List Token) (e : EntryRefusal) → tokens text ≡ Ok ts → us ≡ ts → AnswersEntry (IsTree us) (Err e) → AnswersEntry (IsTypeText text) (Err e)
 tree_refused text ts us NotEntry lexed same h =
     record { none = λ kind k. h.none k.tree (rw (same_tokens text k.found us k.lexed (lexed ∙ ap Ok (sym same))) at k.stands) }
 tree_refused text ts us OutOfMemory lexed same h = tt
 
 -- an entry with a text that is no type text
-pub typed_refused : (entry : Data) (type_text : List ℕ) (e : EntryRefusal) → Some type_text ≡ text_at (codes "type") entry → Answers (IsTypeText type_text) (Err e) → FindsTyped entry (Err e)
+pub typed_refused : (entry : Data) (type_text : List ℕ) (e : EntryRefusal) → Some type_text ≡ text_at (codes "type") entry → AnswersEntry (IsTypeText type_text) (Err e) → FindsTyped entry (Err e)
 typed_refused entry type_text NotEntry is h =
     record { none = λ kind text t. let e = is ∙ t.type in let same : type_text ≡ t.type_text = cc in h.none kind (rw (sym same) at t.typed) }
 typed_refused entry type_text OutOfMemory is h = tt

@@ -11,10 +11,10 @@ pub record IsNone {A : Type 0} (Is : A → Type 0) : Type 0 where
   pub none : (x : A) → Is x → ⊥
 
 -- an answer is what is so, or that there is none, or memory was short
-abbrev pub Answers : {A : Type 0} → (A → Type 0) → Result A EntryRefusal → Type 0
-Answers Is (Ok x) = Is x
-Answers Is (Err NotEntry) = IsNone Is
-Answers Is (Err OutOfMemory) = Unit {0}
+abbrev pub AnswersEntry : {A : Type 0} → (A → Type 0) → Result A EntryRefusal → Type 0
+AnswersEntry Is (Ok x) = Is x
+AnswersEntry Is (Err NotEntry) = IsNone Is
+AnswersEntry Is (Err OutOfMemory) = Unit {0}
 
 -- an answer is an entry's type and the text of its value, or that it is no entry, or memory was short
 abbrev pub FindsTyped : Data → Result Typed EntryRefusal → Type 0

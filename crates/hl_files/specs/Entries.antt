@@ -1,14 +1,11 @@
 -- Entries of data files: `{"value": "TEXT", "type": "TEXT"}`, whatever further members there are.
 use Rattle.std.specs.Prelude.{◌≡◌, ◌≢◌, ℕ, List, [], Some, Ok, codes}
-use Rattle.std.specs.List.{All}
-use Rattle.hl_data.specs.declared.value.Entry.{Entry}
 use Rattle.hl_data.specs.declared.value.HlValue.{HlValue}
 use Rattle.hl_syntax.specs.declared.kinds.HlType.{HlType}
 use Rattle.hl_syntax.specs.declared.token.Token.{Token}
 use Rattle.hl_syntax.specs.declared.tree.TypeText.{TypeText}
 use Rattle.serde_json.specs.Data.{Data}
 use Rattle.hl_files.specs.Objects.{text_at}
-use Rattle.hl_values.specs.Of.{IsValueOf}
 use Rattle.hl_values.specs.Reads.{IsNoValueText}
 use Rattle.hl_values.specs.Written.{IsValueText}
 use Rattle.simplicityhl.specs.Grammar as grammar
@@ -62,11 +59,3 @@ pub record HasNoValueOf (entry : Data) (kind : HlType) : Type 0 where
   pub text : List ℕ
   pub typed : IsTyped entry kind text
   pub none : IsNoValueText text kind
-
--- an entry with a sound type and a value of it
-pub record IsValued (entry : Entry) : Type 0 where
-  pub sound : IsSound entry.kind
-  pub of : IsValueOf entry.value entry.kind
-
-abbrev pub AreValued : List Entry → Type 0
-AreValued entries = All IsValued entries

@@ -28,10 +28,10 @@ FindsAt file name (Err (refusal.BadValue bad)) = (bad ≡ name) × AtName file n
 FindsAt file name (Err refusal.OutOfMemory) = Unit {0}
 
 -- the entries of the names that are there, in the names' order, or what is wrong first
-abbrev pub Reads : List ℕ → List (List ℕ) → Result (List Entry) TextRefusal → Type 0
-Reads text names (Err refusal.NotJson) = IsNoObject text
-Reads text names (Err refusal.OutOfMemory) = Unit {0}
-Reads text names result = (file : Data) × IsObject text file × InTurn (FindsAt file) names result
+abbrev pub ReadsEntries : List ℕ → List (List ℕ) → Result (List Entry) TextRefusal → Type 0
+ReadsEntries text names (Err refusal.NotJson) = IsNoObject text
+ReadsEntries text names (Err refusal.OutOfMemory) = Unit {0}
+ReadsEntries text names result = (file : Data) × IsObject text file × InTurn (FindsAt file) names result
 
 -- at a wanted name: its entry with the wanted type, or what is wrong first; memory may always be short
 abbrev pub WantedAt : Data → TypedName → Result Entry WantedRefusal → Type 0
@@ -58,10 +58,10 @@ pub record AreNamed (text : List ℕ) (names : List (List ℕ)) (entries : List 
 
 -- two answers of which none is for want of memory are one
 abbrev pub IsOneOf : {A E : Type 0} → E → (Result A E → Type 0) → Type 0
-IsOneOf {A} {E} memory Answers = (r s : Result A E) → Answers r → Answers s → r ≢ Err memory → s ≢ Err memory → r ≡ s
+IsOneOf {A} {E} memory AnswersEntry = (r s : Result A E) → AnswersEntry r → AnswersEntry s → r ≢ Err memory → s ≢ Err memory → r ≡ s
 
 abbrev pub IsOneReading : Type 0
-IsOneReading = (text : List ℕ) (names : List (List ℕ)) → IsOneOf refusal.OutOfMemory (Reads text names)
+IsOneReading = (text : List ℕ) (names : List (List ℕ)) → IsOneOf refusal.OutOfMemory (ReadsEntries text names)
 
 abbrev pub IsOneWantedReading : Type 0
 IsOneWantedReading = (text : List ℕ) (asked : List TypedName) → IsOneOf wanted.OutOfMemory (ReadsWanted text asked)

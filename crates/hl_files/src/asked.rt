@@ -2,7 +2,7 @@
 
 ghost use Rattle.std.specs.Prelude.{◌≡◌, map, IfOk};
 ghost use Rattle.serde_json.specs.View.{view};
-ghost use Rattle.hl_files.specs.Entries.{AreValued, IsValued};
+ghost use Rattle.hl_meaning.specs.Entries.{AreValued, IsValued};
 ghost use Rattle.hl_files.specs.Reads.{ReadsWanted, WantedAt, typed_name};
 ghost use Rattle.hl_files.specs.Turns.{Always, InTurn};
 

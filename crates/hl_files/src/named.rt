@@ -2,8 +2,8 @@
 
 ghost use Rattle.std.specs.Prelude.{IfOk, IfSome};
 ghost use Rattle.serde_json.specs.View.{view};
-ghost use Rattle.hl_files.specs.Entries.{AreValued, IsValued};
-ghost use Rattle.hl_files.specs.Reads.{AreNamed, FindsAt, Reads};
+ghost use Rattle.hl_meaning.specs.Entries.{AreValued, IsValued};
+ghost use Rattle.hl_files.specs.Reads.{AreNamed, FindsAt, ReadsEntries};
 ghost use Rattle.hl_files.specs.Turns.{InTurn};
 
 use crate::object::{ObjectRefusal, read_object};
@@ -56,7 +56,7 @@ fn entries_at(alloc: Global, file: &Value, names: &Names) -> Result<Entries, Tex
 /// `NotJson` where the text is no JSON object; else `BadEntry` or `BadValue` at the first name
 /// whose entry is there and isn't as it should be; and `OutOfMemory`.
 pub fn read_entries(alloc: Global, text: &[u8], names: &Names) -> Result<Entries, TextRefusal>
-    ensures read { Reads text.now names.now result }
+    ensures read { ReadsEntries text.now names.now result }
     ensures valued { IfOk result AreValued }
     ensures named { IfOk result (AreNamed text.now names.now) }
 {

@@ -7,7 +7,7 @@ ghost use Rattle.simplicityhl.specs.Grammar.{Stands, most_depth};
 ghost use Rattle.simplicityhl.specs.Kinds.{IsSound};
 ghost use Rattle.simplicityhl.specs.Tokens.{tokens};
 ghost use Rattle.simplicityhl.specs.Written.{walk};
-ghost use Rattle.hl_files.specs.Answers.{Answers, FindsTyped};
+ghost use Rattle.hl_files.specs.Answers.{AnswersEntry, FindsTyped};
 ghost use Rattle.hl_files.specs.Entries.{IsTypeText};
 ghost use Rattle.hl_files.specs.Objects.{text_at};
 
@@ -47,7 +47,7 @@ pub(crate) struct Typed<'a> {
 
 /// The tokens of a text.
 fn lexed(alloc: Global, text: &str) -> Result<TokenList, EntryRefusal>
-    ensures { Answers (λ found. tokens text.now ≡ Ok found) result }
+    ensures { AnswersEntry (λ found. tokens text.now ≡ Ok found) result }
 {
     match tokens(alloc, text) {
         Ok(found) => Ok(found),
@@ -60,7 +60,7 @@ fn lexed(alloc: Global, text: &str) -> Result<TokenList, EntryRefusal>
 
 /// The tree of a type text's tokens.
 fn parsed(alloc: Global, found: &[Token], end: u64) -> Result<Boxed<TypeText>, EntryRefusal>
-    ensures { Answers (Stands grammar.type most_depth found.now) result }
+    ensures { AnswersEntry (Stands grammar.type most_depth found.now) result }
 {
     match parse_type(alloc, found, end) {
         Ok(tree) => Ok(Boxed::new(alloc, tree)?),
@@ -72,7 +72,7 @@ fn parsed(alloc: Global, found: &[Token], end: u64) -> Result<Boxed<TypeText>, E
 
 /// The type that a written type without aliases stands for.
 fn walked(alloc: Global, tree: &TypeText) -> Result<HlType, EntryRefusal>
-    ensures walked { Answers (λ kind. walk [] tree.now ≡ Ok kind) result }
+    ensures walked { AnswersEntry (λ kind. walk [] tree.now ≡ Ok kind) result }
     ensures sound { IfOk result IsSound }
 {
     match resolve(alloc, tree, &Aliases::new(alloc)) {
@@ -85,7 +85,7 @@ fn walked(alloc: Global, tree: &TypeText) -> Result<HlType, EntryRefusal>
 
 /// The type that a type text is.
 fn read_type(alloc: Global, text: &str) -> Result<HlType, EntryRefusal>
-    ensures read { Answers (IsTypeText text.now) result }
+    ensures read { AnswersEntry (IsTypeText text.now) result }
     ensures sound { IfOk result IsSound }
 {
     match lexed(alloc, text) {

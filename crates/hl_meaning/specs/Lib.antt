@@ -1,5 +1,6 @@
 pub mod Literals
 pub mod Values
+pub mod Entries
 pub mod Answer
 pub mod Scopes
 pub mod Jets

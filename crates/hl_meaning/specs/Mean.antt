@@ -24,7 +24,8 @@ use Rattle.hl_meaning.specs.Jets.{jet_answer}
 use Rattle.hl_meaning.specs.Literals.{literal_value}
 use Rattle.hl_meaning.specs.Loops.{Calls, folded, counted, is_counter_width}
 use Rattle.hl_meaning.specs.Scopes.{Binding, Scope, Binder, meant, bound, each_bound}
-use Rattle.hl_meaning.specs.Values.{encoded, decoded, is_sound, same_kind, word_at}
+use Rattle.simplicityhl.specs.Kinds.{is_sound}
+use Rattle.hl_meaning.specs.Values.{encoded, decoded, same_kind, word_at}
 use Rattle.simplicityhl.specs.Kinds.{form}
 
 -- a function by its name: its parameters, and what it gives for their values

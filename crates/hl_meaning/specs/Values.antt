@@ -12,7 +12,7 @@ use Rattle.jets.specs.Unsigned.{Unsigned, is_width}
 use Rattle.simplicity.specs.Tuples.{tuple_value}
 use Rattle.simplicity.specs.Types.{Value, UnitValue, Inl, Inr, Pair, bit_value, word_value, word_count}
 use Rattle.simplicity.specs.Widths.{level_of}
-use Rattle.simplicityhl.specs.Kinds.{bound_level, sound_step}
+use Rattle.simplicityhl.specs.Kinds.{bound_level}
 pub use Rattle.simplicityhl.specs.Same.{same_kind}
 
 -- two answers beside one another, each where it is there
@@ -73,12 +73,6 @@ encode_step v kind = encode_at v (out-HlType kind)
 -- the core value that a value of the type is encoded in; none where the value isn't of the type
 abbrev pub encoded : HlValue → HlType → Option Value
 encoded v kind = fold-HlValue Encoding encode_step v kind
-
--- Types.
-
--- whether a type has sound widths, counts and bounds
-abbrev pub is_sound : HlType → Bool
-is_sound kind = fold-HlType Bool sound_step kind
 
 -- Decoding.
 

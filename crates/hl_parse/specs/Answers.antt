@@ -9,11 +9,11 @@ use Rattle.simplicityhl.specs.Viable.{place}
 use Rattle.hl_grammar.specs.Readers.{Outcome, got, dead, too_deep}
 
 -- an answer is what reading gives, a refusal with the bytes at which it stopped, or memory was short
-abbrev pub Answers : {A : Type 0} → Outcome A → ℕ → Result A ParseRefusal → Type 0
-Answers outcome end (Ok tree) = (rest : List Token) × (outcome ≡ got tree rest)
-Answers outcome end (Err (Syntax at)) = (rest : List Token) × (outcome ≡ dead rest) × (at ≡ place rest end)
-Answers outcome end (Err (TooDeep at)) = (rest : List Token) × (outcome ≡ too_deep rest) × (at ≡ place rest end)
-Answers outcome end (Err OutOfMemory) = Unit {0}
+abbrev pub AnswersTree : {A : Type 0} → Outcome A → ℕ → Result A ParseRefusal → Type 0
+AnswersTree outcome end (Ok tree) = (rest : List Token) × (outcome ≡ got tree rest)
+AnswersTree outcome end (Err (Syntax at)) = (rest : List Token) × (outcome ≡ dead rest) × (at ≡ place rest end)
+AnswersTree outcome end (Err (TooDeep at)) = (rest : List Token) × (outcome ≡ too_deep rest) × (at ≡ place rest end)
+AnswersTree outcome end (Err OutOfMemory) = Unit {0}
 
 -- an answer is this tree, or memory was short
 abbrev pub Finds : {A : Type 0} → A → Result A ParseRefusal → Type 0

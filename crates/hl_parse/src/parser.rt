@@ -6,7 +6,7 @@ ghost use Rattle.hl_grammar.specs.Readers.{whole};
 ghost use Rattle.hl_grammar.specs.Read as read;
 ghost use Rattle.hl_cursor.specs.Gives.{Reads};
 ghost use Rattle.simplicityhl.specs.Viable.{place, IsSyntaxError, IsFirstDeep};
-ghost use Rattle.hl_parse.specs.Answers.{Answers, Finds, IsRefusalFor};
+ghost use Rattle.hl_parse.specs.Answers.{AnswersTree, Finds, IsRefusalFor};
 ghost use Rattle.hl_parse.specs.Refusals.{IsCause, Refuses};
 
 use crate::item::program;
@@ -63,7 +63,7 @@ fn whole_type(alloc: Global, cursor: &mut Cursor<'_>) -> Result<TypeText, Refuse
 
 /// What reading a type answers.
 fn read_type(alloc: Global, tokens: &[Token], end: u64) -> Result<TypeText, ParseRefusal>
-    ensures { Answers (whole (read.type most_depth) tokens.now) end result }
+    ensures { AnswersTree (whole (read.type most_depth) tokens.now) end result }
 {
     let mut cursor = Cursor::new(tokens);
     match whole_type(alloc, &mut cursor) {
@@ -80,7 +80,7 @@ fn read_type(alloc: Global, tokens: &[Token], end: u64) -> Result<TypeText, Pars
 /// `Syntax` where there is none and the tokens are no type, at the first token up to and with which
 /// they begin none, or at the text's end. `OutOfMemory`.
 pub fn parse_type(alloc: Global, tokens: &[Token], end: u64) -> Result<TypeText, ParseRefusal>
-    ensures read { Answers (whole (read.type most_depth) tokens.now) end result }
+    ensures read { AnswersTree (whole (read.type most_depth) tokens.now) end result }
     ensures is_type { IfOk result (λ tree. Stands grammar.type most_depth tokens.now tree) }
     ensures types { (tree : TypeText) →
         Stands grammar.type most_depth tokens.now tree → Finds tree result }
@@ -104,7 +104,7 @@ fn whole_value(alloc: Global, cursor: &mut Cursor<'_>) -> Result<Expr, Refused>
 
 /// What reading a value text answers.
 fn read_value(alloc: Global, tokens: &[Token], end: u64) -> Result<Expr, ParseRefusal>
-    ensures { Answers (whole (read.value most_depth) tokens.now) end result }
+    ensures { AnswersTree (whole (read.value most_depth) tokens.now) end result }
 {
     let mut cursor = Cursor::new(tokens);
     match whole_value(alloc, &mut cursor) {
@@ -122,7 +122,7 @@ fn read_value(alloc: Global, tokens: &[Token], end: u64) -> Result<Expr, ParseRe
 /// `Syntax` where there is none and the tokens are no value text, at the first token up to and with
 /// which they begin none, or at the text's end. `OutOfMemory`.
 pub fn parse_value(alloc: Global, tokens: &[Token], end: u64) -> Result<Expr, ParseRefusal>
-    ensures read { Answers (whole (read.value most_depth) tokens.now) end result }
+    ensures read { AnswersTree (whole (read.value most_depth) tokens.now) end result }
     ensures is_value { IfOk result (λ tree. Stands grammar.value most_depth tokens.now tree) }
     ensures values { (tree : Expr) →
         Stands grammar.value most_depth tokens.now tree → Finds tree result }
@@ -146,7 +146,7 @@ fn whole_program(alloc: Global, cursor: &mut Cursor<'_>) -> Result<Program, Refu
 
 /// What reading a program answers.
 fn read_program(alloc: Global, tokens: &[Token], end: u64) -> Result<Program, ParseRefusal>
-    ensures { Answers (whole (read.program most_depth) tokens.now) end result }
+    ensures { AnswersTree (whole (read.program most_depth) tokens.now) end result }
 {
     let mut cursor = Cursor::new(tokens);
     match whole_program(alloc, &mut cursor) {
@@ -163,7 +163,7 @@ fn read_program(alloc: Global, tokens: &[Token], end: u64) -> Result<Program, Pa
 /// first such token. `Syntax` where there is none and the tokens are no program, at the first token
 /// up to and with which they begin none, or at the text's end. `OutOfMemory`.
 pub fn parse(alloc: Global, tokens: &[Token], end: u64) -> Result<Program, ParseRefusal>
-    ensures read { Answers (whole (read.program most_depth) tokens.now) end result }
+    ensures read { AnswersTree (whole (read.program most_depth) tokens.now) end result }
     ensures is_program { IfOk result (λ tree. Stands grammar.program most_depth tokens.now tree) }
     ensures programs { (tree : List Item) →
         Stands grammar.program most_depth tokens.now tree → Finds tree result }

@@ -15,7 +15,8 @@ use Rattle.hl_meaning.specs.Loops.{Calls, folded, counted, go_on}
 use Rattle.hl_meaning.specs.Mean.{asserted, unwrapped, unwrapped_left, unwrapped_right, none_tested, number_at, empty}
 use Rattle.hl_meaning.specs.Values.{encoded, word_at, word_of}
 use Rattle.hl_rules.specs.Same.{unit_type}
-use Rattle.hl_progress.specs.Held.{Holds, HasAnswer, IsValueOf}
+use Rattle.hl_meaning.specs.Entries.{IsValueOf}
+use Rattle.hl_progress.specs.Held.{Holds, HasAnswer}
 use Rattle.hl_typing.proofs.Every.{Every}
 use Rattle.hl_progress.proofs.Fits.{FitsLayer, opened, there_mapped, bool_fits, word_fits, tuple_fits, left_fits, right_fits}
 

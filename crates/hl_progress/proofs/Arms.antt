@@ -18,7 +18,8 @@ use Rattle.hl_rules.specs.Places.{Scope}
 use Rattle.hl_typing.specs.Patterns.{BindsOnce}
 use Rattle.hl_typing.specs.Typing as rule
 use Rattle.hl_typing.specs.Typing.{Sides}
-use Rattle.hl_progress.specs.Held.{Holds, HasAnswer, IsValueOf}
+use Rattle.hl_meaning.specs.Entries.{IsValueOf}
+use Rattle.hl_progress.specs.Held.{Holds, HasAnswer}
 use Rattle.hl_progress.proofs.Answers.{then_holds}
 use Rattle.hl_progress.proofs.Bound.{pattern_binds}
 use Rattle.hl_progress.proofs.Fits.{FitsLayer, opened, there_mapped}

@@ -25,7 +25,7 @@ use Rattle.hl_meaning.specs.Literals.{literal_value}
 use Rattle.hl_meaning.specs.Mean.{Function, Meaning, ArmMeaning, mean, mean_arm, mean_statement, matched, block_of, all_in, call_of, converted, number_at, items_in_list, items_in_array}
 use Rattle.hl_meaning.specs.Scopes as scopes
 use Rattle.hl_meaning.specs.Scopes.{Binding, meant}
-use Rattle.hl_meaning.specs.Values.{is_sound}
+use Rattle.simplicityhl.specs.Kinds.{is_sound}
 use Rattle.hl_rules.specs.Exprs.{param_types, jet_arguments, jet_result}
 use Rattle.hl_rules.specs.Places.{Scope}
 use Rattle.hl_rules.specs.Same.{unit_type}
@@ -36,7 +36,8 @@ use Rattle.hl_typing.specs.Typing.{Around, IsCalled, Typed, Judged, FormAt, Expr
 use Rattle.hl_typing.proofs.Every.{Every}
 use Rattle.hl_typing.proofs.Same.{both_true}
 use Rattle.hl_typing.proofs.Sound.{opened_sound}
-use Rattle.hl_progress.specs.Held.{Holds, HasAnswer, IsValueOf, AreValuesOf}
+use Rattle.hl_meaning.specs.Entries.{IsValueOf}
+use Rattle.hl_progress.specs.Held.{Holds, HasAnswer, AreValuesOf}
 use Rattle.hl_progress.proofs.Answers.{then_holds, value_then, known_value, shaped_then, unit_fits, asserted_holds, unwrapped_holds, left_holds, right_holds, tested_holds, literal_holds}
 use Rattle.hl_progress.proofs.Arms.{sides_hold}
 use Rattle.hl_progress.proofs.Bound.{pattern_binds}

@@ -17,7 +17,8 @@ use Rattle.hl_rules.specs.Places.{Scope}
 use Rattle.hl_typing.specs.Patterns as rule
 use Rattle.hl_typing.specs.Patterns.{Matched, PatternAt, PatternsAt, Binds}
 use Rattle.hl_typing.proofs.Every.{Every}
-use Rattle.hl_progress.specs.Held.{IsValueOf, AreValuesOf}
+use Rattle.hl_meaning.specs.Entries.{IsValueOf}
+use Rattle.hl_progress.specs.Held.{AreValuesOf}
 use Rattle.hl_progress.proofs.Fits.{opened, tuple_of, array_of}
 use Rattle.hl_progress.proofs.Scopes.{ScopeFits, scope_join}
 

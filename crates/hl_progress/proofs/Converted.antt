@@ -6,9 +6,11 @@ use Rattle.hl_syntax.specs.declared.kinds.HlType.{HlType}
 use Rattle.simplicity.specs.Types.{IsOf, Kind, One, Sum, Product}
 use Rattle.simplicityhl.specs.Kinds.{form, IsSound}
 use Rattle.hl_meaning.specs.Mean.{converted, are_alike}
-use Rattle.hl_meaning.specs.Values.{encoded, decoded, is_sound, same_kind}
+use Rattle.simplicityhl.specs.Kinds.{is_sound}
+use Rattle.hl_meaning.specs.Values.{encoded, decoded, same_kind}
 use Rattle.hl_values.proofs.Coding.{sound_good}
-use Rattle.hl_progress.specs.Held.{HasAnswer, IsValueOf}
+use Rattle.hl_meaning.specs.Entries.{IsValueOf}
+use Rattle.hl_progress.specs.Held.{HasAnswer}
 use Rattle.hl_progress.proofs.Answers.{known_value}
 use Rattle.hl_typing.proofs.Sound.{and_true}
 

@@ -17,7 +17,8 @@ use Rattle.simplicity.specs.Tuples.{tuple_value}
 use Rattle.simplicity.specs.Types.{Value, UnitValue, Inl, Inr, Pair}
 use Rattle.simplicityhl.specs.Kinds.{bound_level, is_bound}
 use Rattle.hl_meaning.specs.Values.{Encoding, encoded, encode_step, encode_at, at_each, at_all, list_value, beside, word_of}
-use Rattle.hl_progress.specs.Held.{IsValueOf, AreValuesOf}
+use Rattle.hl_meaning.specs.Entries.{IsValueOf}
+use Rattle.hl_progress.specs.Held.{AreValuesOf}
 use Rattle.hl_typing.proofs.Every.{Every}
 
 -- a layer of a value at a layer of a type

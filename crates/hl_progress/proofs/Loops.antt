@@ -16,7 +16,8 @@ use Rattle.hl_meaning.specs.Scopes.{Binding}
 use Rattle.hl_meaning.specs.Values.{word_of}
 use Rattle.hl_rules.specs.Exprs.{param_types}
 use Rattle.hl_typing.proofs.Every.{Every}
-use Rattle.hl_progress.specs.Held.{HasAnswer, IsValueOf, AreValuesOf}
+use Rattle.hl_meaning.specs.Entries.{IsValueOf}
+use Rattle.hl_progress.specs.Held.{HasAnswer, AreValuesOf}
 use Rattle.hl_progress.proofs.Answers.{value_then, known_then, shaped_then, folded_holds, counted_holds}
 use Rattle.hl_progress.proofs.Called.{Called}
 use Rattle.hl_progress.proofs.Fits.{word_fits}

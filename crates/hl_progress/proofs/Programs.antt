@@ -14,7 +14,7 @@ use Rattle.hl_meaning.specs.Mean.{Function, function_after, functions_after, fun
 use Rattle.hl_meaning.specs.Scopes as scopes
 use Rattle.hl_meaning.specs.Scopes.{Binding}
 use Rattle.hl_meaning.specs.Values.{beside}
-use Rattle.hl_rules.specs.Entries.{AreValued}
+use Rattle.hl_meaning.specs.Entries.{AreValued}
 use Rattle.hl_rules.specs.Places.{is_main}
 use Rattle.hl_rules.specs.Programs.{Checked, checked}
 use Rattle.hl_typing.specs.Patterns.{Once}
@@ -23,7 +23,8 @@ use Rattle.hl_typing.specs.Typing.{ExprAt}
 use Rattle.hl_typing.proofs.Every.{every_of}
 use Rattle.hl_typing.proofs.Programs.{answered_typed}
 use Rattle.hl_progress.specs.Calls.{argument_type}
-use Rattle.hl_progress.specs.Held.{IsValueOf, AreValuesOf, HasValue}
+use Rattle.hl_meaning.specs.Entries.{IsValueOf}
+use Rattle.hl_progress.specs.Held.{AreValuesOf, HasValue}
 use Rattle.hl_progress.specs.Laws.{CheckedAnswers, TypedAnswers}
 use Rattle.hl_progress.proofs.Answers.{shaped_then}
 use Rattle.hl_progress.proofs.Bodies.{Setting, answers}

@@ -9,7 +9,8 @@ use Rattle.hl_meaning.specs.Scopes as scopes
 use Rattle.hl_meaning.specs.Scopes.{Binding, meant}
 use Rattle.hl_rules.specs.Places.{Scope, variable_type}
 use Rattle.hl_typing.proofs.Every.{Every}
-use Rattle.hl_progress.specs.Held.{HasValue, IsValueOf}
+use Rattle.hl_meaning.specs.Entries.{IsValueOf}
+use Rattle.hl_progress.specs.Held.{HasValue}
 
 -- the names have values of their types
 abbrev pub HaveValues : List Binding → List TypedName → Type 0

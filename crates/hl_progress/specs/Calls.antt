@@ -9,7 +9,8 @@ use Rattle.hl_syntax.specs.declared.kinds.TypedName.{TypedName}
 use Rattle.hl_meaning.specs.Scopes.{Binding}
 use Rattle.hl_rules.specs.Places.{is_main}
 use Rattle.hl_rules.specs.Programs.{Checked}
-use Rattle.hl_progress.specs.Held.{IsValueOf, HasValue}
+use Rattle.hl_meaning.specs.Entries.{IsValueOf}
+use Rattle.hl_progress.specs.Held.{HasValue}
 
 -- the function of a name
 abbrev pub function_of : List TypedFunction → List ℕ → Option TypedFunction

@@ -1,16 +1,11 @@
 -- Values and scopes at types.
-use Rattle.std.specs.Prelude.{◌≡◌, Some, IsSome}
+use Rattle.std.specs.Prelude.{◌≡◌, Some}
 use Rattle.hl_data.specs.declared.value.HlValue.{HlValue}
-use Rattle.hl_syntax.specs.declared.kinds.HlType.{HlType}
 use Rattle.hl_syntax.specs.declared.kinds.TypedName.{TypedName}
 pub use Rattle.hl_jets.specs.Held.{AreValuesOf, HasAnswer}
 use Rattle.hl_meaning.specs.Answer.{Answer, gives, fails, stuck}
 use Rattle.hl_meaning.specs.Scopes.{Scope, meant}
-use Rattle.hl_meaning.specs.Values.{encoded}
-
--- a value of the type
-abbrev pub IsValueOf : HlValue → HlType → Type 0
-IsValueOf value kind = IsSome (encoded value kind)
+use Rattle.hl_meaning.specs.Entries.{IsValueOf}
 
 -- failure, or something of which this holds
 abbrev pub Holds : {A : Type 0} → (A → Type 0) → Answer A → Type 0

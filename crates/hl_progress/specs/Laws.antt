@@ -5,7 +5,7 @@ use Rattle.hl_data.specs.declared.value.HlValue.{HlValue}
 use Rattle.hl_syntax.specs.declared.tree.Item.{Item}
 use Rattle.hl_meaning.specs.Mean.{meaning}
 use Rattle.hl_meaning.specs.Scopes.{Binding}
-use Rattle.hl_rules.specs.Entries.{AreValued}
+use Rattle.hl_meaning.specs.Entries.{AreValued}
 use Rattle.hl_rules.specs.Programs.{Checked, checked}
 use Rattle.hl_typing.specs.Programs.{ProgramTyped}
 use Rattle.hl_progress.specs.Calls.{FitsCall}

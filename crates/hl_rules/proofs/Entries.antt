@@ -11,7 +11,7 @@ use Rattle.hl_data.specs.declared.value.HlValue.TheVariants as value
 use Rattle.simplicity.specs.Types.{bit_value}
 use Rattle.simplicityhl.specs.Kinds.{sound_step}
 use Rattle.hl_meaning.specs.Values.{Encoding, encode_at, encode_step, encoded}
-use Rattle.hl_rules.specs.Entries.{AreValued, IsValued}
+use Rattle.hl_meaning.specs.Entries.{AreValued, IsValued}
 
 pub no_entry : AreValued []
 no_entry i d less = absurd (omega arith)

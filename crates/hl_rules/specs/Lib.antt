@@ -4,7 +4,6 @@ pub mod Steps
 pub mod Walks
 pub mod Places
 pub mod Patterns
-pub mod Entries
 pub mod Exprs
 pub mod Declared
 pub mod Programs

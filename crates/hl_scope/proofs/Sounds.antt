@@ -8,7 +8,8 @@ use Rattle.hl_syntax.specs.declared.kinds.HlType.TheFolds.{fold-roll-HlType}
 use Rattle.hl_syntax.specs.declared.kinds.HlType.TheVariants as kind
 use Rattle.hl_syntax.specs.declared.kinds.TypedName.{TypedName}
 use Rattle.hl_types.specs.Walks.{AreSound}
-use Rattle.hl_types.proofs.Parts.{is_sound, sound-Tuple, sound-List, sound-UInt}
+use Rattle.simplicityhl.specs.Kinds.{is_sound}
+use Rattle.hl_types.proofs.Parts.{sound-Tuple, sound-List, sound-UInt}
 use Rattle.simplicityhl.specs.Kinds.{IsSound, sound_step, is_bound, is_count, is_width}
 use Rattle.hl_data.specs.declared.typed.TypedFunction.{TypedFunction}
 use Rattle.hl_scope.specs.Contexts.{AreSoundTypes, IsSoundFunction}

@@ -33,7 +33,8 @@ pub enum Rule {
     K15,
     /// A witness stands outside `main`.
     K16,
-    /// A witness name stands a second time.
+    /// In edition 1 a witness name stands a second time; in edition 2 it stands again where another
+    /// type than at its first place is expected.
     K17,
     /// The arguments' file has no entry for a parameter of the program.
     K18,
@@ -64,7 +65,7 @@ pub enum Limit {
     L4,
     /// Weight of a type, the nodes of its tree: 4,194,304.
     L5,
-    /// Nodes of a program: 65,536.
+    /// Nodes of a program: 1,048,576.
     L6,
     /// A program's bound on work: 2^32.
     L7,

@@ -33,7 +33,8 @@ use Rattle.simplicityhl.specs.Tokens.{tokens, tokens_after, with_token}
 use Rattle.hl_types.proofs.Parts.{bound_parts}
 use Rattle.hl_meaning.specs.Literals.{literal_value}
 use Rattle.hl_meaning.specs.Values.{Encoding, encoded, encode_at, at_each, at_all, beside, list_value, is_number_of}
-use Rattle.hl_values.specs.Of.{IsValueOf, is_sound}
+use Rattle.simplicityhl.specs.Kinds.{is_sound}
+use Rattle.hl_meaning.specs.Entries.{IsValueOf}
 use Rattle.hl_values.specs.Printed.{printed, print_step, joined, number_text, hexadecimal}
 use Rattle.hl_texts.specs.RoundTrip.{nesting, nesting_step, greatest, PrintedIsRead, DeeperIsNoText, ReadsAgain}
 use Rattle.hl_values.specs.Written.{AtType, written, each_at, all_at}

@@ -6,9 +6,9 @@ use Rattle.hl_data.specs.declared.value.HlValue.TheFolds.{fold-HlValue}
 use Rattle.hl_syntax.specs.declared.kinds.HlType.{HlType}
 use Rattle.simplicityhl.specs.Grammar.{most_depth}
 use Rattle.simplicityhl.specs.Kinds.{IsSound}
-use Rattle.hl_values.specs.Of.{IsValueOf}
+use Rattle.hl_meaning.specs.Entries.{IsValueOf}
 use Rattle.hl_values.specs.Printed.{printed}
-use Rattle.hl_values.specs.Reads.{IsNoValueText, Reads}
+use Rattle.hl_values.specs.Reads.{IsNoValueText, ReadsValue}
 use Rattle.hl_values.specs.Written.{IsValueText}
 use Rattle.hl_values.specs.declared.refusal.ValueRefusal.{ValueRefusal}
 use Rattle.hl_values.specs.declared.refusal.ValueRefusal.TheVariants.{OutOfMemory}
@@ -48,5 +48,5 @@ TextIsOne = (text : List ℕ) (kind : HlType) (v w : HlValue) → IsValueText te
 -- what reading the printed text answers is the value, unless memory was short
 abbrev pub ReadsAgain : Type 0
 ReadsAgain =
-    (kind : HlType) (v : HlValue) (answer : Result HlValue ValueRefusal) → IsSound kind → IsValueOf v kind → nesting v ≤ most_depth → Reads (printed v) kind answer →
+    (kind : HlType) (v : HlValue) (answer : Result HlValue ValueRefusal) → IsSound kind → IsValueOf v kind → nesting v ≤ most_depth → ReadsValue (printed v) kind answer →
     (answer ≡ Ok v) ⊎ (answer ≡ Err OutOfMemory)

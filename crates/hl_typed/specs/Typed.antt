@@ -7,7 +7,7 @@ use Rattle.hl_syntax.specs.declared.kinds.TypedName.{TypedName}
 use Rattle.hl_syntax.specs.declared.tree.Item.{Item}
 use Rattle.hl_data.specs.declared.typed.TypedFunction.{TypedFunction}
 use Rattle.hl_data.specs.declared.value.Entry.{Entry}
-use Rattle.hl_rules.specs.Entries.{AreValued}
+use Rattle.hl_meaning.specs.Entries.{AreValued}
 use Rattle.hl_rules.specs.Programs.{Checked, checked}
 
 -- it is what some source text of its edition is, of which some function is asked for, with some entries whose values are of their

@@ -9,14 +9,11 @@ use Rattle.hl_syntax.specs.declared.kinds.HlType.TheFolds.{fold-HlType, fold-rol
 use Rattle.hl_syntax.specs.declared.kinds.HlType.TheVariants as kind
 use Rattle.simplicity.specs.Types.{Kind, Sum}
 use Rattle.simplicity.specs.Tuples.{tuple_kind}
-use Rattle.simplicityhl.specs.Kinds.{form, form_step, sound_step, is_width, is_bound, bound_level, list_kind}
+use Rattle.simplicityhl.specs.Kinds.{form, form_step, sound_step, is_sound, is_width, is_bound, bound_level, list_kind}
 use Rattle.type_table.specs.Kinds.{Means, kind_at, IsGrown}
 use Rattle.type_table.proofs.Growth.{grown_length, kind_at-grown}
 use Rattle.type_table.proofs.Words.{not_less, not_more}
 use Rattle.hl_types.specs.Ids.{AreBelow}
-
-abbrev pub is_sound : HlType → Bool
-is_sound k = fold-HlType Bool sound_step k
 
 pub form-Tuple : (parts : List HlType) → form (kind.Tuple parts) ≡ tuple_kind (map form parts)
 form-Tuple parts = ap form (sym (kind.rolls-Tuple parts)) ∙ fold-roll-HlType Kind form_step (HlType-F.Tuple parts)

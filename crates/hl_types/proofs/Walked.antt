@@ -8,7 +8,8 @@ use Rattle.hl_syntax.specs.declared.kinds.TypedName.{TypedName}
 use Rattle.hl_syntax.specs.declared.tree.TypeText.{TypeText}
 use Rattle.simplicityhl.specs.Kinds.{IsSound}
 use Rattle.simplicityhl.specs.Written.{Broken, walk, then_walk, in_turn}
-use Rattle.hl_types.proofs.Parts.{is_sound, sound-Tuple}
+use Rattle.simplicityhl.specs.Kinds.{is_sound}
+use Rattle.hl_types.proofs.Parts.{sound-Tuple}
 
 -- the types that were found, before those that the parts that are left stand for
 abbrev pub after : List HlType → Result (List HlType) Broken → Result (List HlType) Broken

@@ -5,8 +5,8 @@ use Rattle.hl_types.specs.declared.refusal.TypeRefusal.TheVariants.{Rule, Limit,
 use Rattle.simplicityhl.specs.Written.{Broken, breaks_rule, breaks_limit}
 
 -- an answer is what the walk finds, or memory was short
-abbrev pub Answers : {A : Type 0} → Result A Broken → Result A TypeRefusal → Type 0
-Answers found (Ok kind) = found ≡ Ok kind
-Answers found (Err (Rule rule span)) = found ≡ Err (breaks_rule rule span)
-Answers found (Err (Limit limit span)) = found ≡ Err (breaks_limit limit span)
-Answers found (Err OutOfMemory) = Unit {0}
+abbrev pub AnswersType : {A : Type 0} → Result A Broken → Result A TypeRefusal → Type 0
+AnswersType found (Ok kind) = found ≡ Ok kind
+AnswersType found (Err (Rule rule span)) = found ≡ Err (breaks_rule rule span)
+AnswersType found (Err (Limit limit span)) = found ≡ Err (breaks_limit limit span)
+AnswersType found (Err OutOfMemory) = Unit {0}

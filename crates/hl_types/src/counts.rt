@@ -1,5 +1,5 @@
 ghost use Rattle.std.specs.Prelude.{◌≡◌, ◌<◌, min, IfOk, IsTrue};
-ghost use Rattle.hl_types.specs.Answers.{Answers};
+ghost use Rattle.hl_types.specs.Answers.{AnswersType};
 ghost use Rattle.simplicityhl.specs.Kinds.{is_bound, is_count};
 ghost use Rattle.simplicityhl.specs.Tokens.{decimal_value};
 ghost use Rattle.simplicityhl.specs.Written.{bounded, counted};
@@ -26,7 +26,7 @@ fn count_of(word: &[u8]) -> u32
 ///
 /// `Limit` L4 for a greater number.
 pub fn counted(mark: &Mark) -> Result<u32, TypeRefusal>
-    ensures answers { Answers (counted mark.now) result }
+    ensures answers { AnswersType (counted mark.now) result }
     ensures sound { IfOk result (λ count. IsTrue (is_count count)) }
 {
     let count = count_of(mark.text.as_str().as_bytes());
@@ -65,7 +65,7 @@ pub fn is_list_bound(bound: u32) -> bool
 
 /// A count that is a bound of lists.
 pub(crate) fn bounded(mark: &Mark, count: u32) -> Result<u32, TypeRefusal>
-    ensures answers { Answers (bounded mark.now count) result }
+    ensures answers { AnswersType (bounded mark.now count) result }
     ensures sound { IfOk result (λ bound. IsTrue (is_bound bound)) }
 {
     if is_list_bound(count) {

@@ -1,6 +1,6 @@
 ghost use Rattle.std.specs.Prelude.{◌≡◌, IfOk, map, nat_lt};
 ghost use Rattle.std.specs.List.{All};
-ghost use Rattle.hl_types.specs.Answers.{Answers};
+ghost use Rattle.hl_types.specs.Answers.{AnswersType};
 ghost use Rattle.hl_types.specs.Walks.{AreSound, walk_form};
 ghost use Rattle.simplicity.specs.Limits.{most_weight};
 ghost use Rattle.simplicity.specs.Types.{weight};
@@ -34,7 +34,7 @@ fn resolve_name(
     aliases: &Aliases,
 ) -> Result<HlType, TypeRefusal>
     requires { AreSound aliases.now }
-    ensures answers { Answers (known span (named aliases.now name.now)) result }
+    ensures answers { AnswersType (known span (named aliases.now name.now)) result }
     ensures sound { IfOk result IsSound }
 {
     match type_named(alloc, name, aliases.as_slice())? {
@@ -57,7 +57,7 @@ fn resolve_name(
 #[cycle(resolve)]
 pub fn resolve(alloc: Global, text: &TypeText, aliases: &Aliases) -> Result<HlType, TypeRefusal>
     requires { AreSound aliases.now }
-    ensures answers { Answers (walk aliases.now text.now) result }
+    ensures answers { AnswersType (walk aliases.now text.now) result }
     ensures sound { IfOk result IsSound }
 {
     let kind = resolve_form(alloc, &text.form, text.span, aliases)?;
@@ -78,7 +78,7 @@ pub(crate) fn resolve_parts(
     aliases: &Aliases,
 ) -> Result<HlTypes, TypeRefusal>
     requires { AreSound aliases.now }
-    ensures answers { Answers (in_turn (map (walk aliases.now) texts.now)) result }
+    ensures answers { AnswersType (in_turn (map (walk aliases.now) texts.now)) result }
     ensures sound { IfOk result (λ kinds. All IsSound kinds) }
 {
     let mut kinds = HlTypes::new(alloc);
@@ -98,7 +98,7 @@ pub(crate) fn resolve_form(
     aliases: &Aliases,
 ) -> Result<HlType, TypeRefusal>
     requires { AreSound aliases.now }
-    ensures answers { Answers (walk_form aliases.now form.now span) result }
+    ensures answers { AnswersType (walk_form aliases.now form.now span) result }
     ensures sound { IfOk result IsSound }
 {
     match form {

@@ -10,7 +10,7 @@ use Rattle.hl_syntax.specs.declared.token.Span.{Span}
 use Rattle.hl_syntax.specs.declared.tree.Expr.{Expr}
 use Rattle.hl_syntax.specs.declared.tree.ExprForm.{ExprForm}
 use Rattle.simplicityhl.specs.Kinds.{IsSound}
-use Rattle.hl_rules.specs.Entries.{IsValued}
+use Rattle.hl_meaning.specs.Entries.{IsValued}
 use Rattle.hl_rules.specs.Exprs.{ExprWalk, FormWalk, expr_walk}
 use Rattle.hl_rules.specs.Places.{Scope, Context, variable_type}
 use Rattle.hl_rules.specs.Walks.{Walk}

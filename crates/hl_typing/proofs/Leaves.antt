@@ -14,8 +14,9 @@ use Rattle.hl_syntax.specs.declared.tree.TypeText.{TypeText}
 use Rattle.simplicityhl.specs.Kinds.{form, IsSound}
 use Rattle.simplicityhl.specs.Written.{walk, then_walk}
 use Rattle.hl_meaning.specs.Literals.{literal_value}
-use Rattle.hl_meaning.specs.Values.{encoded, is_sound}
-use Rattle.hl_rules.specs.Entries.{IsValued}
+use Rattle.simplicityhl.specs.Kinds.{is_sound}
+use Rattle.hl_meaning.specs.Values.{encoded}
+use Rattle.hl_meaning.specs.Entries.{IsValued}
 use Rattle.hl_rules.specs.Exprs.{form_step}
 use Rattle.hl_rules.specs.Places.{Scope, has_name, variable_type, entry_named}
 use Rattle.hl_rules.specs.Same.{same_type, same_kind, unit_type, width_of, option_of, either_of}

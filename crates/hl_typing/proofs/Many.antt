@@ -18,7 +18,7 @@ use Rattle.hl_syntax.specs.declared.tree.ExprForm.TheVariants as exprs
 use Rattle.simplicityhl.specs.Kinds.{IsSound, is_bound, is_count, is_width}
 use Rattle.simplicityhl.specs.Tokens.{decimal_value}
 use Rattle.simplicityhl.specs.Written.{Broken, counted, breaks_limit}
-use Rattle.hl_meaning.specs.Values.{is_sound}
+use Rattle.simplicityhl.specs.Kinds.{is_sound}
 use Rattle.hl_rules.specs.Exprs.{expr_walk, form_step, parts_walk, items_walk, param_types, fold_shape, while_shape, jet_named, jet_arguments, jet_result}
 use Rattle.hl_rules.specs.Places.{Scope, function_named}
 use Rattle.hl_rules.specs.Same.{same_type, parts_of, array_of, list_of}

@@ -20,7 +20,7 @@ use Rattle.simplicityhl.specs.Kinds.{IsSound}
 use Rattle.simplicityhl.specs.Written.{Broken, walk, then_walk}
 use Rattle.hl_rules.specs.Before.{AreTyped, no_param, one_more}
 use Rattle.hl_rules.specs.Declared.{Head, alias_walk, head_walk, params_walk, param_walk, result_walk, has_function, is_empty, may_be}
-use Rattle.hl_rules.specs.Entries.{AreValued, IsValued}
+use Rattle.hl_meaning.specs.Entries.{AreValued, IsValued}
 use Rattle.hl_rules.specs.Exprs.{expr_walk}
 use Rattle.hl_rules.specs.Names.{is_reserved, alias_words, function_words, variable_words}
 use Rattle.hl_rules.specs.Places.{Context, is_main, has_name, variable_type}

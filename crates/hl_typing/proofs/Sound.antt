@@ -18,7 +18,7 @@ use Rattle.simplicity.specs.Types.{weight}
 use Rattle.simplicityhl.specs.Kinds.{form, IsSound, sound_step, is_width, is_count, is_bound}
 use Rattle.simplicityhl.specs.Tokens.{decimal_value}
 use Rattle.simplicityhl.specs.Written.{Broken, Walked, walk, walk_step, then_walk, in_turn, counted, bounded, light, known, named, or_else, width_names}
-use Rattle.hl_meaning.specs.Values.{is_sound}
+use Rattle.simplicityhl.specs.Kinds.{is_sound}
 use Rattle.hl_typing.proofs.Every.{Every, every_found}
 use Rattle.hl_typing.proofs.Same.{both_true}
 use Rattle.hl_typing.proofs.Steps.{ran, ok_same}

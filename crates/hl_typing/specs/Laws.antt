@@ -4,7 +4,7 @@ use Rattle.hl_data.specs.declared.value.Entry.{Entry}
 use Rattle.hl_syntax.specs.declared.tree.Item.{Item}
 use Rattle.simplicityhl.specs.Written.{Broken}
 use Rattle.hl_rules.specs.Breaks.{Breaks}
-use Rattle.hl_rules.specs.Entries.{AreValued}
+use Rattle.hl_meaning.specs.Entries.{AreValued}
 use Rattle.hl_rules.specs.Programs.{Checked, checked}
 use Rattle.hl_rules.specs.Witnesses.{item_names, listed_names}
 use Rattle.hl_typing.specs.Programs.{ProgramTyped, ItemsErased}

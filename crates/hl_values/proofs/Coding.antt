@@ -19,7 +19,7 @@ use Rattle.simplicity.specs.Types.{Kind, Value, UnitValue, Inl, Inr, Pair, IsOf,
 use Rattle.simplicity.specs.Widths.{level_of}
 use Rattle.simplicityhl.specs.Kinds.{form, form_step, sound_step, is_width, bound_level, IsSound}
 use Rattle.hl_meaning.specs.Values.{Encoding, Decoding, encoded, encode_step, encode_at, decoded, decode_step, at_each, at_all, list_value, is_number_of, beside}
-use Rattle.hl_values.specs.Of.{is_sound}
+use Rattle.simplicityhl.specs.Kinds.{is_sound}
 use Rattle.hl_values.proofs.Codecs.{Codec, Good, kinds, decoders, AllGood, no_good, more_good, Encodes, no_parts, more_parts, tuple_there, tuple_back, one_parts}
 use Rattle.hl_values.proofs.Lists.{Each, no_items, more_items, copies_there, copies_back, list_there, list_back, mapped, each_length}
 use Rattle.hl_values.proofs.Words.{number_of-word, word_back, width_count}

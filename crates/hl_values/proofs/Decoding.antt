@@ -22,7 +22,7 @@ use Rattle.simplicityhl.specs.Kinds.{form, form_step, sound_step, is_count, is_w
 use Rattle.hl_types.proofs.Parts.{form-Tuple, form-List, sound-Tuple, sound-List}
 use Rattle.hl_meaning.specs.Values.{encoded, at_all, at_each, list_value, is_number_of}
 use Rattle.hl_values.specs.Leaves.{lent, IsTuple, IsList, PushesParts, PushesItems}
-use Rattle.hl_values.specs.Of.{is_sound}
+use Rattle.simplicityhl.specs.Kinds.{is_sound}
 use Rattle.hl_values.proofs.Codecs.{Good, AllGood, no_good, more_good, Encodes, no_parts, more_parts, kinds, tuple_back, encodes_length, one_parts}
 use Rattle.hl_values.proofs.Coding.{codec, sound_good, besides, kinds_map, encode_rolled}
 use Rattle.hl_values.proofs.Encoding.{encoded-Tuple, encoded-Array, encoded-List}

@@ -18,7 +18,8 @@ use Rattle.simplicity.specs.Tuples.{tuple_value}
 use Rattle.simplicityhl.specs.Kinds.{bound_level}
 use Rattle.hl_meaning.specs.Values.{encoded, at_each, at_all, list_value, beside}
 use Rattle.hl_values.specs.Last.{TakesLast}
-use Rattle.hl_values.specs.Of.{IsValueOf, is_sound}
+use Rattle.simplicityhl.specs.Kinds.{is_sound}
+use Rattle.hl_meaning.specs.Entries.{IsValueOf}
 use Rattle.hl_values.proofs.Coding.{encode_rolled}
 
 -- core values before those of the rest

@@ -26,7 +26,8 @@ use Rattle.simplicityhl.specs.Kinds.{sound_step, is_bound, bound_level}
 use Rattle.hl_types.proofs.Parts.{bound_parts}
 use Rattle.hl_meaning.specs.Literals.{literal_value}
 use Rattle.hl_meaning.specs.Values.{encoded, at_each, at_all, list_value, beside}
-use Rattle.hl_values.specs.Of.{IsValueOf, is_sound}
+use Rattle.simplicityhl.specs.Kinds.{is_sound}
+use Rattle.hl_meaning.specs.Entries.{IsValueOf}
 use Rattle.hl_values.specs.Written.{AtType, written, written_form, form_step, form_at, each_at, all_at}
 use Rattle.hl_values.proofs.Coding.{encode_rolled, besides}
 use Rattle.hl_values.proofs.Lists.{mapped}

@@ -8,7 +8,7 @@ use Rattle.simplicityhl.specs.Tokens.{tokens, Refusal}
 use Rattle.hl_values.specs.declared.refusal.ValueRefusal.{ValueRefusal}
 use Rattle.hl_values.specs.declared.refusal.ValueRefusal.TheVariants.{NotValue, OutOfMemory}
 use Rattle.hl_values.specs.Written.{IsValueText, written}
-use Rattle.hl_values.specs.Reads.{Answers, Lexes, HasNoTokens, Parses, IsTheTree, HasTree, IsTreeOf, Reads}
+use Rattle.hl_values.specs.Reads.{AnswersValue, Lexes, HasNoTokens, Parses, IsTheTree, HasTree, IsTreeOf, ReadsValue}
 
 pub no_tokens : (text : List ℕ) (e : Refusal) → tokens text ≡ Err e → HasNoTokens text
 no_tokens text e h = record { none = λ ts is. let k = sym h ∙ is in absurd (cc) }
@@ -29,7 +29,7 @@ lex_refused text OutOfMemory h = tt
 pub value_found : (text : List ℕ) (kind : HlType) (tree : Expr) (v : HlValue) → IsTreeOf text tree → written tree kind ≡ Some v → IsValueText text kind v
 value_found text kind tree v t walked = record { found = t.found; tree = tree; lexed = t.lexed; stands = t.is.stands; walked = walked }
 
-value_refused : (text : List ℕ) (kind : HlType) (tree : Expr) (e : ValueRefusal) → IsTreeOf text tree → Answers {A = HlValue} (written tree kind) (Err e) → Reads text kind (Err e)
+value_refused : (text : List ℕ) (kind : HlType) (tree : Expr) (e : ValueRefusal) → IsTreeOf text tree → AnswersValue {A = HlValue} (written tree kind) (Err e) → ReadsValue text kind (Err e)
 value_refused text kind tree NotValue t h = record {
   none = λ v is.
       let e = sym is.lexed ∙ t.lexed in
@@ -40,12 +40,12 @@ value_refused text kind tree NotValue t h = record {
 }
 value_refused text kind tree OutOfMemory t h = tt
 
-pub text_refused : (text : List ℕ) (kind : HlType) (e : ValueRefusal) → HasTree text (Err e) → Reads text kind (Err e)
+pub text_refused : (text : List ℕ) (kind : HlType) (e : ValueRefusal) → HasTree text (Err e) → ReadsValue text kind (Err e)
 text_refused text kind NotValue h = record { none = λ v is. h.none is.found is.tree is.lexed is.stands }
 text_refused text kind OutOfMemory h = tt
 
 pub tree_refused_at : (text : List ℕ) (ts us : List Token) (e : ValueRefusal) → tokens text ≡ Ok ts → us ≡ ts → Parses us (Err e) → HasTree text (Err e)
 tree_refused_at text ts us e lexed same h = tree_refused text ts e lexed (subst (λ ws. Parses ws (Err e)) same h)
 
-pub value_refused_at : (text : List ℕ) (kind : HlType) (tree other : Expr) (e : ValueRefusal) → IsTreeOf text tree → other ≡ tree → Answers {A = HlValue} (written other kind) (Err e) → Reads text kind (Err e)
-value_refused_at text kind tree other e t same h = value_refused text kind tree e t (subst (λ x. Answers {A = HlValue} (written x kind) (Err e)) same h)
+pub value_refused_at : (text : List ℕ) (kind : HlType) (tree other : Expr) (e : ValueRefusal) → IsTreeOf text tree → other ≡ tree → AnswersValue {A = HlValue} (written other kind) (Err e) → ReadsValue text kind (Err e)
+value_refused_at text kind tree other e t same h = value_refused text kind tree e t (subst (λ x. AnswersValue {A = HlValue} (written x kind) (Err e)) same h)

@@ -1,6 +1,5 @@
 pub mod Last
 pub mod Leaves
-pub mod Of
 pub mod Printed
 pub mod Reads
 pub mod Written

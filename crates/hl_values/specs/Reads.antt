@@ -12,10 +12,10 @@ use Rattle.hl_values.specs.declared.refusal.ValueRefusal.{ValueRefusal}
 use Rattle.hl_values.specs.declared.refusal.ValueRefusal.TheVariants.{NotValue, OutOfMemory}
 
 -- an answer is what was found, or memory was short
-abbrev pub Answers : {A : Type 0} → Option A → Result A ValueRefusal → Type 0
-Answers found (Ok x) = found ≡ Some x
-Answers found (Err NotValue) = found ≡ None
-Answers found (Err OutOfMemory) = Unit {0}
+abbrev pub AnswersValue : {A : Type 0} → Option A → Result A ValueRefusal → Type 0
+AnswersValue found (Ok x) = found ≡ Some x
+AnswersValue found (Err NotValue) = found ≡ None
+AnswersValue found (Err OutOfMemory) = Unit {0}
 
 -- a text without tokens
 pub record HasNoTokens (text : List ℕ) : Type 0 where
@@ -61,7 +61,7 @@ pub record IsNoValueText (text : List ℕ) (kind : HlType) : Type 0 where
   pub none : (v : HlValue) → IsValueText text kind v → ⊥
 
 -- the text is a value text of the type for the answer, or none of the type, or memory was short
-abbrev pub Reads : List ℕ → HlType → Result HlValue ValueRefusal → Type 0
-Reads text kind (Ok v) = IsValueText text kind v
-Reads text kind (Err NotValue) = IsNoValueText text kind
-Reads text kind (Err OutOfMemory) = Unit {0}
+abbrev pub ReadsValue : List ℕ → HlType → Result HlValue ValueRefusal → Type 0
+ReadsValue text kind (Ok v) = IsValueText text kind v
+ReadsValue text kind (Err NotValue) = IsNoValueText text kind
+ReadsValue text kind (Err OutOfMemory) = Unit {0}

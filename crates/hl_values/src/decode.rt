@@ -5,7 +5,7 @@ ghost use Rattle.std.specs.List.{list_all, All};
 ghost use Rattle.core_data.specs.Data.{value_of};
 ghost use Rattle.hl_meaning.specs.Values.{at_all, at_each, encoded, decoded, is_number_of};
 ghost use Rattle.hl_values.specs.Leaves.{lent, IsList, IsTuple, PushesItems, PushesParts};
-ghost use Rattle.hl_values.specs.Of.{is_sound};
+ghost use Rattle.simplicityhl.specs.Kinds.{is_sound};
 ghost use Rattle.simplicity.specs.Types as core;
 ghost use Rattle.simplicity.specs.Types.{AreOf, IsOf};
 ghost use Rattle.simplicity.specs.Widths.{level_of, word_of_width};

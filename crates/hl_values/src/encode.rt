@@ -4,7 +4,8 @@ ghost use Rattle.std.specs.Prelude.{◌≡◌, ℕ, ◌<◌, length, map, Some, 
 ghost use Rattle.std.specs.List.{list_all};
 ghost use Rattle.core_data.specs.Data.{value_of, values_of};
 ghost use Rattle.hl_meaning.specs.Values.{at_all, at_each, encoded, decoded};
-ghost use Rattle.hl_values.specs.Of.{is_sound, IsValueOf};
+ghost use Rattle.simplicityhl.specs.Kinds.{is_sound};
+ghost use Rattle.hl_meaning.specs.Entries.{IsValueOf};
 ghost use Rattle.simplicity.specs.Types.{IsOf};
 ghost use Rattle.simplicityhl.specs.Kinds.{bound_level, form, is_bound, IsSound};
 

@@ -1,8 +1,8 @@
 //! Values read from their texts.
 
 ghost use Rattle.std.specs.Prelude.{IfOk};
-ghost use Rattle.hl_values.specs.Of.{IsValueOf};
-ghost use Rattle.hl_values.specs.Reads.{HasTree, Lexes, Parses, Reads};
+ghost use Rattle.hl_meaning.specs.Entries.{IsValueOf};
+ghost use Rattle.hl_values.specs.Reads.{HasTree, Lexes, Parses, ReadsValue};
 ghost use Rattle.simplicityhl.specs.Kinds.{IsSound};
 
 use crate::refusal::ValueRefusal;
@@ -60,7 +60,7 @@ fn tree_of(alloc: Global, text: &str) -> Result<Boxed<Expr>, ValueRefusal>
 /// the grammar, nested more than 128 deep too, or the value isn't of the type; and `OutOfMemory`.
 pub fn read_value(alloc: Global, text: &str, kind: &HlType) -> Result<HlValue, ValueRefusal>
     requires { IsSound kind.now }
-    ensures read { Reads text.now kind.now result }
+    ensures read { ReadsValue text.now kind.now result }
     ensures of_kind { IfOk result (λ v. IsValueOf v kind.now) }
 {
     match tree_of(alloc, text) {

@@ -3,8 +3,8 @@
 ghost use Rattle.std.specs.Prelude.{◌≡◌, map, length, IfOk, IsTrue};
 ghost use Rattle.std.specs.List.{list_all};
 ghost use Rattle.hl_meaning.specs.Literals.{literal_value};
-ghost use Rattle.hl_values.specs.Of.{is_sound};
-ghost use Rattle.hl_values.specs.Reads.{Answers};
+ghost use Rattle.simplicityhl.specs.Kinds.{is_sound};
+ghost use Rattle.hl_values.specs.Reads.{AnswersValue};
 ghost use Rattle.hl_values.specs.Written.{all_at, each_at, number_at, written, written_form};
 ghost use Rattle.simplicityhl.specs.Kinds.{is_width, IsSound};
 
@@ -18,7 +18,7 @@ use std::alloc::Global;
 /// The number of a width that a literal spells.
 fn number(word: &str, width: u16) -> Result<HlValue, ValueRefusal>
     requires { IsTrue (is_width width) }
-    ensures { Answers (number_at width (literal_value word.now)) result }
+    ensures { AnswersValue (number_at width (literal_value word.now)) result }
 {
     match word_spelled(word, width) {
         Some(word) => Ok(HlValue::Number(word)),
@@ -35,7 +35,7 @@ pub(crate) fn parts_at(
     kinds: &HlTypes,
 ) -> Result<HlValues, ValueRefusal>
     requires { IsTrue (list_all (λ kind. kind) (map is_sound kinds.now)) }
-    ensures { Answers (each_at (map written parts.now) kinds.now) result }
+    ensures { AnswersValue (each_at (map written parts.now) kinds.now) result }
 {
     if parts.len() != kinds.len() {
         return Err(ValueRefusal::NotValue);
@@ -56,7 +56,7 @@ pub(crate) fn items_at(
     kind: &HlType,
 ) -> Result<HlValues, ValueRefusal>
     requires { IsSound kind.now }
-    ensures { Answers (all_at (map written items.now) kind.now) result }
+    ensures { AnswersValue (all_at (map written items.now) kind.now) result }
 {
     let mut values = HlValues::new(alloc);
     'items: for item in items.as_slice() {
@@ -70,7 +70,7 @@ pub(crate) fn items_at(
 #[cycle(written)]
 pub(crate) fn value_at(alloc: Global, tree: &Expr, kind: &HlType) -> Result<HlValue, ValueRefusal>
     requires { IsSound kind.now }
-    ensures { Answers (written tree.now kind.now) result }
+    ensures { AnswersValue (written tree.now kind.now) result }
 {
     Ok(form_at(alloc, &tree.form, kind)?)
 }
@@ -83,7 +83,7 @@ pub(crate) fn form_at(
     kind: &HlType,
 ) -> Result<HlValue, ValueRefusal>
     requires { IsSound kind.now }
-    ensures { Answers (written_form form.now kind.now) result }
+    ensures { AnswersValue (written_form form.now kind.now) result }
 {
     match kind {
         HlType::Bool => match form {

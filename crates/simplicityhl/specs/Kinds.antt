@@ -54,6 +54,9 @@ sound_step (HlType-F.List item bound) = item && is_bound bound
 sound_step (HlType-F.Option item) = item
 sound_step (HlType-F.Either left right) = left && right
 
--- a type with sound widths, counts and bounds
+-- whether a type has sound widths, counts and bounds
+abbrev pub is_sound : HlType → Bool
+is_sound kind = fold-HlType Bool sound_step kind
+
 abbrev pub IsSound : HlType → Type 0
-IsSound kind = IsTrue (fold-HlType Bool sound_step kind)
+IsSound kind = IsTrue (is_sound kind)

@@ -1,7 +1,7 @@
 //! Sources and what their functions give.
 
 ghost use Rattle.std.specs.Prelude.{IfOk};
-ghost use Rattle.hl_rules.specs.Entries.{AreValued, IsValued};
+ghost use Rattle.hl_meaning.specs.Entries.{AreValued, IsValued};
 ghost use Rattle.simplicityhl.specs.Kinds.{IsSound};
 
 use hl_check::{TypedProgram, check};

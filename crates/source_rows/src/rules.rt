@@ -1,7 +1,7 @@
 //! Sources and the rules that they break.
 
 ghost use Rattle.std.specs.Prelude.{IfOk};
-ghost use Rattle.hl_rules.specs.Entries.{AreValued};
+ghost use Rattle.hl_meaning.specs.Entries.{AreValued};
 
 use hl_check::{CheckRefusal, check};
 use hl_data::{Entries, Entry, HlValue};

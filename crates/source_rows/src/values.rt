@@ -1,7 +1,7 @@
 //! Value texts and their values.
 
 ghost use Rattle.std.specs.Prelude.{IfOk};
-ghost use Rattle.hl_values.specs.Of.{IsValueOf};
+ghost use Rattle.hl_meaning.specs.Entries.{IsValueOf};
 ghost use Rattle.simplicityhl.specs.Kinds.{IsSound};
 
 use hl_lex::tokens;

@@ -1,6 +1,6 @@
 use Rattle.std.proofs.Common.{◌≡◌, map, drop}
 use Rattle.std.specs.List.{list_all}
-use Rattle.hl_meaning.specs.Values.{is_sound}
+use Rattle.simplicityhl.specs.Kinds.{is_sound}
 use Rattle.hl_eval.proofs.sound.+sound.Given as goal
 
 abbrev pub invariant-are_sound-parts : goal.invariant-are_sound-parts

@@ -1,5 +1,5 @@
 use Rattle.serde_json.specs.View.{view}
-use Rattle.hl_files.specs.Entries.{AreValued}
+use Rattle.hl_meaning.specs.Entries.{AreValued}
 use Rattle.hl_files.specs.Reads.{WantedAt}
 use Rattle.hl_files.specs.Turns.{Always}
 use Rattle.hl_files.proofs.Turning.{Passed}

@@ -2,7 +2,8 @@ use Rattle.std.proofs.Common.{arith, refl, ap, length, map, IsTrue}
 use Rattle.hl_syntax.specs.declared.kinds.HlType.TheVariants as kind
 use Rattle.simplicityhl.specs.Kinds.{form}
 use Rattle.type_table.proofs.Growth.{grown_self, grown_through}
-use Rattle.hl_types.proofs.Parts.{is_sound, sound_at, ids_at, tuple_means, either_means, list_means, sound-Tuple}
+use Rattle.simplicityhl.specs.Kinds.{is_sound}
+use Rattle.hl_types.proofs.Parts.{sound_at, ids_at, tuple_means, either_means, list_means, sound-Tuple}
 use Rattle.hl_types.proofs.kinds.+structure.Goals as goal
 
 pub returns-in_ok-sum-in-Either-clause-ok : goal.returns-in_ok-sum-in-Either-clause-ok

@@ -3,7 +3,7 @@ use Rattle.std.specs.List.{list_all}
 use Rattle.simplicityhl.specs.Kinds.{form}
 use Rattle.type_table.specs.Kinds.{kind_at, IsGrown, IsDistinct}
 use Rattle.hl_types.specs.Ids.{AreBelow}
-use Rattle.hl_types.proofs.Parts.{is_sound}
+use Rattle.simplicityhl.specs.Kinds.{is_sound}
 use Rattle.hl_types.proofs.kinds.+structure.Given as goal
 
 abbrev pub decreases-structure : goal.decreases-structure
