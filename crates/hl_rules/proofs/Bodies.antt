@@ -12,7 +12,7 @@ use Rattle.hl_rules.specs.Breaks as breaks
 use Rattle.hl_rules.specs.Exprs.{ExprWalk, FormWalk, StatementWalk, ArmWalk, form_step, statement_step, arm_step, expr_step, expr_walk, form_walk, statement_walk}
 use Rattle.hl_rules.specs.Witnesses.{Names, names_step, statement_names_step, form_names, statement_names, expr_names, arm_names}
 use Rattle.hl_rules.proofs.Fine.{Fine, then_fine}
-use Rattle.hl_rules.proofs.Here.{Setting, Meets, At, Bad, Claim, Proved, expr_of, exprs_of, context, place, rule_of}
+use Rattle.hl_rules.proofs.Here.{Setting, ◌⊙◌, Meets, At, Bad, Claim, Proved, expr_of, exprs_of, context, place, rule_of}
 use Rattle.hl_rules.proofs.Blocks.{ProvedArm, ProvedStatement, StatementAt, StatementClaim, statement_of, statements_of, arm_walk, block_with, block_without, let_fine, match_two, plain_fine}
 use Rattle.hl_rules.proofs.Leaves as leaves
 use Rattle.hl_rules.proofs.Many as many
@@ -107,9 +107,9 @@ module _ (s : Setting) where
   expr_claim e claim h at =
       let walks = fold_out-Expr FormWalk StatementWalk ArmWalk ExprWalk (form_step (context s)) (statement_step (context s)) (arm_step (context s)) (expr_step (context s)) e in
       let names : expr_names e ≡ form_names e.form = fold_out-Expr Names Names Names Names names_step statement_names_step (λ arm. arm.body) (λ e. e.form) e in
-      subst (λ (w : ExprWalk). Fine (Bad s) (Meets (h.before ++ expr_names e)) (w h.scope h.expected (rule_of h.alone) h.met)) (sym walks)
-      (then_fine (Bad s) (Meets (h.before ++ form_names e.form)) (Meets (h.before ++ expr_names e)) (form_walk (context s) e.form e.span h.scope h.expected (rule_of h.alone) h.met) _ (claim e.span h at)
-      (λ found is. is ∙ ap (λ ns. h.before ++ ns) (sym names)))
+      subst (λ (w : ExprWalk). Fine (Bad s) (Meets s.program (h.before ++ expr_names e)) (w h.scope h.expected (rule_of h.alone) h.met)) (sym walks)
+      (then_fine (Bad s) (Meets s.program (h.before ++ form_names e.form)) (Meets s.program (h.before ++ expr_names e)) (form_walk (context s) e.form e.span h.scope h.expected (rule_of h.alone) h.met) _ (claim e.span h at)
+      (λ found is. is ⊙ ap (λ ns. h.before ++ ns) (sym names)))
 
   pub expr_fine : (e : Expr) → Claim s e
   expr_fine =

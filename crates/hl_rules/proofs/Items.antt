@@ -29,7 +29,7 @@ use Rattle.hl_rules.specs.Same.{same_type, unit_type}
 use Rattle.hl_rules.specs.Witnesses.{Names, expr_names, item_names}
 use Rattle.hl_rules.proofs.Bodies.{expr_fine}
 use Rattle.hl_rules.proofs.Fine.{Fine, then_fine, after_needs, body_needs, body_step, fine_is}
-use Rattle.hl_rules.proofs.Here.{Setting, Meets, signature_of}
+use Rattle.hl_rules.proofs.Here.{Setting, Met, ◌⊙◌, Meets, nothing_met, signature_of}
 use Rattle.hl_rules.proofs.Leaves.{false_not, not_false}
 use Rattle.hl_rules.proofs.Names.{names_of, has_among, named_more, flat_more}
 use Rattle.hl_rules.proofs.Types.{type_fine, Any}
@@ -51,9 +51,9 @@ some_params : (aliases : List TypedName) (params : List Param) (typed : List Typ
 some_params aliases params [] are none is = absurd (cc)
 some_params aliases params (one ∷ typed) are none is = let long = typed_long aliases params (one ∷ typed) are in let e : length params ≡ 0 = ap length is in absurd (omega arith)
 
-module _ (program : List Item) (asked : List ℕ) (entries : List Entry) (end : ℕ) where
+module _ (program : List Item) (asked : List ℕ) (entries : List Entry) (edition end : ℕ) where
   abbrev Bad : Broken → Type 0
-  Bad = Breaks program asked entries end
+  Bad = Breaks program asked entries edition end
 
   abbrev signatures : Known → List Signature
   signatures known = map signature_of known.functions
@@ -66,7 +66,7 @@ module _ (program : List Item) (asked : List ℕ) (entries : List Entry) (end : 
       after_needs Bad Q (not (is_reserved alias_words name.text)) K24 name.span _ (λ e. breaks.k24_alias name text span known.aliases (signatures known) holds (not_false _ e))
       (λ _. after_needs Bad Q (not (has_name known.aliases name.text)) K1 name.span _ (λ e. breaks.k1_alias name text span known.aliases (signatures known) holds (not_false _ e))
       (λ _. then_fine Bad (λ kind. (walk known.aliases text ≡ Ok kind) × Any kind) Q (walk known.aliases text) _
-      (fine_is Bad Any (walk known.aliases text) (type_fine program asked entries end known.aliases text (written.of_alias name text span (signatures known) holds)))
+      (fine_is Bad Any (walk known.aliases text) (type_fine program asked entries edition end known.aliases text (written.of_alias name text span (signatures known) holds)))
       (λ kind found. (kind, found.0, refl))))
 
   module _ (name : Mark) (text : Option TypeText) (body : Expr) (span : Span) (aliases : List TypedName) (functions : List Signature) where
@@ -82,14 +82,14 @@ module _ (program : List Item) (asked : List ℕ) (entries : List Entry) (end : 
         (λ _. after_needs Bad Q (not (has_name typed param.name.text)) K5 param.name.span _
         (λ e. breaks.k5_param name before params param text body span aliases functions holds' (ap (λ ns. is_among ns param.name.text) (sym named) ∙ sym (has_among typed param.name.text) ∙ not_false _ e))
         (λ _. then_fine Bad (λ kind. (walk aliases param.kind ≡ Ok kind) × Any kind) Q (walk aliases param.kind) _
-        (fine_is Bad Any (walk aliases param.kind) (type_fine program asked entries end aliases param.kind (written.of_param name before params param text body span functions holds')))
+        (fine_is Bad Any (walk aliases param.kind) (type_fine program asked entries edition end aliases param.kind (written.of_param name before params param text body span functions holds')))
         (λ kind found. (one_more before typed param kind are found.0, named_more typed (record { name = param.name.text; kind = kind }) (param_names before) named ∙ sym (map-append (λ (p : Param). p.name.text) before (param ∷ [])))))))
         (λ next more. params_fine whole holds (before ++ param ∷ []) params (is ∙ sym (append_assoc before (param ∷ []) params)) next more.0 more.1)
 
   result_fine : (name : Mark) (params : List Param) (text : Option TypeText) (body : Expr) (span : Span) (aliases : List TypedName) (functions : List Signature) → Holds program (items.Function name params text body span) aliases functions →
       Fine Bad Any (result_walk aliases text)
   result_fine name params None body span aliases functions holds = tt
-  result_fine name params (Some text) body span aliases functions holds = type_fine program asked entries end aliases text (written.of_result name params text body span functions holds)
+  result_fine name params (Some text) body span aliases functions holds = type_fine program asked entries edition end aliases text (written.of_result name params text body span functions holds)
 
   -- what the head of a function gives
   abbrev HasHead : List TypedName → List Param → Option TypeText → Head → Type 0
@@ -118,51 +118,51 @@ module _ (program : List Item) (asked : List ℕ) (entries : List Entry) (end : 
 
   -- an item after others, with what is known after it
   abbrev ItemEnds : List Item → Item → Known × List TypedName → Type 0
-  ItemEnds before item found = Declare (before ++ item ∷ []) found.0.aliases (signatures found.0) × (names_of found.1 ≡ flat_map item_names (before ++ item ∷ []))
+  ItemEnds before item found = Declare (before ++ item ∷ []) found.0.aliases (signatures found.0) × Met program (flat_map item_names (before ++ item ∷ [])) found.1
 
-  item_fine : (before after : List Item) (item : Item) → program ≡ before ++ item ∷ after → (known : Known) → Declare before known.aliases (signatures known) → (met : List TypedName) → names_of met ≡ flat_map item_names before →
-      Fine Bad (ItemEnds before item) (item_walk entries known item met)
+  item_fine : (before after : List Item) (item : Item) → program ≡ before ++ item ∷ after → (known : Known) → Declare before known.aliases (signatures known) → (met : List TypedName) → Met program (flat_map item_names before) met →
+      Fine Bad (ItemEnds before item) (item_walk entries edition known item met)
   item_fine before after (items.Alias name text span) is known declared met named =
       body_step Bad (λ next. (kind : HlType) × (walk known.aliases text ≡ Ok kind) × (next ≡ known.aliases ++ record { name = name.text; kind = kind } ∷ [])) (ItemEnds before (items.Alias name text span)) (alias_walk known.aliases name text) met _
       (alias_fine name text span known (record { before = before; after = after; is = is; declared = declared }))
       (λ aliases _ found. (
         subst (λ (names : List TypedName). Declare (before ++ items.Alias name text span ∷ []) names (signatures known)) (sym found.2) (an_alias before known.aliases (signatures known) name text span found.0 declared found.1),
-        named ∙ sym (append-nil _) ∙ flat_more item_names before (items.Alias name text span) [],
+        named ⊙ sym (append-nil _) ∙ flat_more item_names before (items.Alias name text span) [],
       ))
   item_fine before after (items.Function name params text body span) is known declared met named =
       let item = items.Function name params text body span in
       let holds : Holds program item known.aliases (signatures known) = record { before = before; after = after; is = is; declared = declared } in
-      let s : Setting = record { program = program; asked = asked; entries = entries; end = end; aliases = known.aliases; functions = known.functions; in_main = is_main name.text } in
-      let walked : TypedFunction × List TypedName → Type 0 = λ found. Declare (before ++ item ∷ []) known.aliases (map signature_of (known.functions ++ found.0 ∷ [])) × (names_of found.1 ≡ flat_map item_names (before ++ item ∷ [])) in
-      then_fine Bad walked (ItemEnds before item) (function_walk entries known name params text body met) _
+      let s : Setting = record { program = program; asked = asked; entries = entries; end = end; aliases = known.aliases; functions = known.functions; in_main = is_main name.text; edition = edition } in
+      let walked : TypedFunction × List TypedName → Type 0 = λ found. Declare (before ++ item ∷ []) known.aliases (map signature_of (known.functions ++ found.0 ∷ [])) × Met program (flat_map item_names (before ++ item ∷ [])) found.1 in
+      then_fine Bad walked (ItemEnds before item) (function_walk entries edition known name params text body met) _
       (body_step Bad (HasHead known.aliases params text) walked (head_walk known.aliases known.functions name params text) met _ (head_fine name params text body span known holds)
-      (λ head _ has. then_fine Bad (Meets (flat_map item_names before ++ expr_names body)) walked (expr_walk (record { aliases = known.aliases; functions = known.functions; entries = entries; in_main = is_main name.text }) body head.params head.result K6 met) _
+      (λ head _ has. then_fine Bad (Meets program (flat_map item_names before ++ expr_names body)) walked (expr_walk (record { aliases = known.aliases; functions = known.functions; entries = entries; in_main = is_main name.text; edition = edition }) body head.params head.result K6 met) _
       (expr_fine s body (record { scope = head.params; expected = head.result; alone = false; before = flat_map item_names before; met = met; named = named })
       (occurs.body name params text body span known.aliases (signatures known) head.params head.result holds has.0 has.1))
       (λ found ends. (
         subst (λ (fs : List Signature). Declare (before ++ item ∷ []) known.aliases fs) (sym (map-append signature_of known.functions (record { name = name.text; params = head.params; result = head.result; body = found.0 } ∷ [])))
             (a_function before known.aliases (signatures known) name params text body span head.params head.result declared has.0 has.1),
-        ends ∙ flat_more item_names before item [],
+        ends ⊙ flat_more item_names before item [],
       ))))
       (λ found ends. ends)
 
-  items_fine : (before left : List Item) → program ≡ before ++ left → (known : Known) → Declare before known.aliases (signatures known) → (met : List TypedName) → names_of met ≡ flat_map item_names before →
-      Fine Bad (λ found. Declare program found.0.aliases (signatures found.0)) (items_walk entries known left met)
+  items_fine : (before left : List Item) → program ≡ before ++ left → (known : Known) → Declare before known.aliases (signatures known) → (met : List TypedName) → Met program (flat_map item_names before) met →
+      Fine Bad (λ found. Declare program found.0.aliases (signatures found.0)) (items_walk entries edition known left met)
   items_fine before [] is known declared met named = subst (λ (items : List Item). Declare items known.aliases (signatures known)) (sym (is ∙ append-nil before)) declared
   items_fine before (item ∷ left) is known declared met named =
-      then_fine Bad (ItemEnds before item) (λ found. Declare program found.0.aliases (signatures found.0)) (item_walk entries known item met) _ (item_fine before left item is known declared met named)
+      then_fine Bad (ItemEnds before item) (λ found. Declare program found.0.aliases (signatures found.0)) (item_walk entries edition known item met) _ (item_fine before left item is known declared met named)
       (λ next ends. items_fine (before ++ item ∷ []) left (is ∙ sym (append_assoc before (item ∷ []) left)) next.0 ends.0 next.1 ends.1)
 
-  program_fine : Fine Bad Any (program_walk program asked entries end [])
+  program_fine : Fine Bad Any (program_walk program asked entries edition end [])
   program_fine =
-      then_fine Bad (λ found. Declare program found.0.aliases (signatures found.0)) Any (items_walk entries (record { aliases = []; functions = [] }) program []) _ (items_fine [] program refl (record { aliases = []; functions = [] }) nothing [] refl)
+      then_fine Bad (λ found. Declare program found.0.aliases (signatures found.0)) Any (items_walk entries edition (record { aliases = []; functions = [] }) program []) _ (items_fine [] program refl (record { aliases = []; functions = [] }) nothing [] (nothing_met program))
       (λ found declared. body_needs Bad Any (has_function found.0.functions asked) K20 (record { start = end; end = end }) found.1 _
       (λ e. breaks.k20 found.0.aliases (signatures found.0) declared (false_not _ (sym (has_same found.0.functions asked) ∙ e))) (λ _. tt))
 
-  refused : (r : Result (List TypedFunction × List TypedName) Broken) (broken : Broken) → Fine Bad Any r → checked_of r ≡ Err broken → Bad broken
+  refused : (r : Result (List TypedFunction × List TypedName) Broken) (broken : Broken) → Fine Bad Any r → checked_of edition r ≡ Err broken → Bad broken
   refused (Ok found) broken h e = absurd (cc)
   refused (Err other) broken h e = let same : other ≡ broken = cc in subst Bad same h
 
-  pub answered : (broken : Broken) → checked program asked entries end ≡ Err broken → Bad broken
+  pub answered : (broken : Broken) → checked program asked entries edition end ≡ Err broken → Bad broken
   unfolding checked
-  answered broken e = refused (program_walk program asked entries end []) broken program_fine e
+  answered broken e = refused (program_walk program asked entries edition end []) broken program_fine e

@@ -19,15 +19,16 @@ use Rattle.simplicityhl.specs.Written.{Broken, breaks_rule, walk, then_walk}
 use Rattle.hl_meaning.specs.Literals.{literal_value}
 use Rattle.hl_rules.specs.Breaks as breaks
 use Rattle.hl_rules.specs.Breaks.{Calls, Counts, IsShapeless, Misfits}
-use Rattle.hl_rules.specs.Exprs.{ExprWalk, FormWalk, StatementWalk, ArmWalk, form_step, expr_walk}
+use Rattle.hl_rules.specs.Exprs.{ExprWalk, FormWalk, StatementWalk, ArmWalk, form_step, expr_walk, may_stand}
 use Rattle.hl_rules.specs.Occurs.{Place, Occurs, HasParts, types_of, part}
 use Rattle.hl_rules.specs.Occurs as occurs
 use Rattle.hl_rules.specs.Written as written
-use Rattle.hl_rules.specs.Places.{has_name, variable_type, entry_named}
+use Rattle.hl_rules.specs.Places.{variable_type, entry_named}
 use Rattle.hl_rules.specs.Same.{same_type, same_kind, unit_type, width_of, option_of, either_of}
 use Rattle.hl_rules.specs.Witnesses.{Names, expr_names}
 use Rattle.hl_rules.proofs.Fine.{Fine, then_fine, body_needs, body_wants, body_step}
-use Rattle.hl_rules.proofs.Here.{Setting, Here, Meets, At, Bad, Proved, context, place, misfit, one_part, rule_of}
+use Rattle.hl_rules.proofs.Again.{broken_again}
+use Rattle.hl_rules.proofs.Here.{Setting, Here, Met, one_met, ◌⊙◌, Meets, At, Bad, Proved, context, place, misfit, one_part, rule_of}
 use Rattle.hl_rules.proofs.Names.{names_of, has_among, named_more}
 use Rattle.hl_rules.proofs.Types.{type_fine, Any}
 
@@ -55,53 +56,56 @@ module _ (s : Setting) where
   Holds layer names form = At s (form_step (context s) layer) names form
 
   abbrev Ends : Names → TypedForm × List TypedName → Type 0
-  Ends names = Meets names
+  Ends names = Meets s.program names
 
   pub literal : (word : List ℕ) → Holds (ExprForm-F.Literal word) [] (exprs.Literal word)
   literal word span h at =
       body_wants (Bad s) (Ends (h.before ++ [])) (width_of h.expected) (rule_of h.alone) span h.met _ (λ e. misfit s span h (exprs.Literal word) at (breaks.no_number word e))
       (λ width found. body_needs (Bad s) (Ends (h.before ++ [])) (nat_lt (literal_value word) (2 ^ width)) K7 span h.met _ (λ e. breaks.k7 (place s h) word span width at found (let more = ltb-false _ _ e in omega arith))
-      (λ _. h.named ∙ sym (append-nil h.before)))
+      (λ _. h.named ⊙ sym (append-nil h.before)))
 
   pub panic : Holds ExprForm-F.Panic [] exprs.Panic
-  panic span h at = h.named ∙ sym (append-nil h.before)
+  panic span h at = h.named ⊙ sym (append-nil h.before)
 
   -- a form that is of a type of itself
-  pub typed : (form : ExprForm) (span : Span) (h : Here) (known : HlType) → Occurs s.program (place s h) form span → breaks.HasType (place s h) form known → same_type known h.expected ≡ false → Bad s (breaks_rule (rule_of h.alone) span)
+  pub typed : (form : ExprForm) (span : Span) (h : Here s.program) (known : HlType) → Occurs s.program (place s h) form span → breaks.HasType (place s h) form known → same_type known h.expected ≡ false → Bad s (breaks_rule (rule_of h.alone) span)
   typed form span h known at has e = misfit s span h form at (breaks.other_type form known has (false_not (same_type known h.expected) e))
 
   pub truth : Holds ExprForm-F.True [] exprs.True
-  truth span h at = body_needs (Bad s) (Ends (h.before ++ [])) (same_type kind.Bool h.expected) (rule_of h.alone) span h.met _ (typed exprs.True span h kind.Bool at breaks.truth) (λ _. h.named ∙ sym (append-nil h.before))
+  truth span h at = body_needs (Bad s) (Ends (h.before ++ [])) (same_type kind.Bool h.expected) (rule_of h.alone) span h.met _ (typed exprs.True span h kind.Bool at breaks.truth) (λ _. h.named ⊙ sym (append-nil h.before))
 
   pub falsehood : Holds ExprForm-F.False [] exprs.False
-  falsehood span h at = body_needs (Bad s) (Ends (h.before ++ [])) (same_type kind.Bool h.expected) (rule_of h.alone) span h.met _ (typed exprs.False span h kind.Bool at breaks.falsehood) (λ _. h.named ∙ sym (append-nil h.before))
+  falsehood span h at = body_needs (Bad s) (Ends (h.before ++ [])) (same_type kind.Bool h.expected) (rule_of h.alone) span h.met _ (typed exprs.False span h kind.Bool at breaks.falsehood) (λ _. h.named ⊙ sym (append-nil h.before))
 
   pub nothing : Holds ExprForm-F.Nothing [] exprs.Nothing
-  nothing span h at = body_wants (Bad s) (Ends (h.before ++ [])) (option_of h.expected) (rule_of h.alone) span h.met _ (λ e. misfit s span h exprs.Nothing at (breaks.no_option_none e)) (λ _ _. h.named ∙ sym (append-nil h.before))
+  nothing span h at = body_wants (Bad s) (Ends (h.before ++ [])) (option_of h.expected) (rule_of h.alone) span h.met _ (λ e. misfit s span h exprs.Nothing at (breaks.no_option_none e)) (λ _ _. h.named ⊙ sym (append-nil h.before))
 
   pub variable : (name : List ℕ) → Holds (ExprForm-F.Name name) [] (exprs.Name name)
   variable name span h at =
       body_wants (Bad s) (Ends (h.before ++ [])) (variable_type h.scope name) K4 span h.met _ (breaks.k4 (place s h) name span at)
-      (λ known found. body_needs (Bad s) (Ends (h.before ++ [])) (same_type known h.expected) (rule_of h.alone) span h.met _ (typed (exprs.Name name) span h known at (breaks.variable name known found)) (λ _. h.named ∙ sym (append-nil h.before)))
+      (λ known found. body_needs (Bad s) (Ends (h.before ++ [])) (same_type known h.expected) (rule_of h.alone) span h.met _ (typed (exprs.Name name) span h known at (breaks.variable name known found)) (λ _. h.named ⊙ sym (append-nil h.before)))
 
   pub param : (name : Mark) → Holds (ExprForm-F.Param name) [] (exprs.Param name)
   param name span h at =
       body_wants (Bad s) (Ends (h.before ++ [])) (entry_named s.entries name.text) K18 name.span h.met _ (breaks.k18 (place s h) name span at)
-      (λ entry found. body_needs (Bad s) (Ends (h.before ++ [])) (same_type entry.kind h.expected) K19 name.span h.met _ (λ e. breaks.k19 (place s h) name span entry at found (false_not (same_type entry.kind h.expected) e)) (λ _. h.named ∙ sym (append-nil h.before)))
+      (λ entry found. body_needs (Bad s) (Ends (h.before ++ [])) (same_type entry.kind h.expected) K19 name.span h.met _ (λ e. breaks.k19 (place s h) name span entry at found (false_not (same_type entry.kind h.expected) e)) (λ _. h.named ⊙ sym (append-nil h.before)))
 
   pub witness : (name : Mark) → Holds (ExprForm-F.Witness name) (name.text ∷ []) (exprs.Witness name)
   witness name span h at =
       body_needs (Bad s) (Ends (h.before ++ name.text ∷ [])) s.in_main K16 name.span h.met _ (breaks.k16 (place s h) name span at)
-      (λ _. body_needs (Bad s) (Ends (h.before ++ name.text ∷ [])) (not (has_name h.met name.text)) K17 name.span h.met _
-      (λ e. breaks.k17 (place s h) name span at (ap (λ ns. is_among ns name.text) (sym h.named) ∙ sym (has_among h.met name.text) ∙ not_false (has_name h.met name.text) e))
-      (λ _. named_more h.met (record { name = name.text; kind = h.expected }) h.before h.named))
+      (λ _. body_needs (Bad s) (Ends (h.before ++ name.text ∷ [])) (may_stand s.edition h.met name.text h.expected) K17 name.span h.met _
+      (λ e. broken_again s name span h at e)
+      (λ _. record {
+        named = named_more h.met (record { name = name.text; kind = h.expected }) h.before h.named.named;
+        stand = one_met h.met (place s h) name span h.named.stand at (sym h.named.named);
+      }))
 
   -- the part of a form that has one
-  only : (form : ExprForm) (span : Span) (h : Here) → Occurs s.program (place s h) form span → (e : Proved s) (kind : HlType) → HasParts (place s h) form (e.0 ∷ []) (kind ∷ []) → (next : TypedExpr → List TypedName → Result (TypedForm × List TypedName) Broken) →
-      ((found : TypedExpr) (met : List TypedName) → names_of met ≡ h.before ++ expr_names e.0 → Fine (Bad s) (Ends (h.before ++ expr_names e.0)) (next found met)) →
+  only : (form : ExprForm) (span : Span) (h : Here s.program) → Occurs s.program (place s h) form span → (e : Proved s) (kind : HlType) → HasParts (place s h) form (e.0 ∷ []) (kind ∷ []) → (next : TypedExpr → List TypedName → Result (TypedForm × List TypedName) Broken) →
+      ((found : TypedExpr) (met : List TypedName) → Met s.program (h.before ++ expr_names e.0) met → Fine (Bad s) (Ends (h.before ++ expr_names e.0)) (next found met)) →
       Fine (Bad s) (Ends (h.before ++ expr_names e.0)) (then_walk (expr_walk (context s) e.0 h.scope kind K6 h.met) (λ found. next found.0 found.1))
   only form span h at e kind has next done =
-      then_fine (Bad s) (Meets (h.before ++ expr_names e.0)) (Ends (h.before ++ expr_names e.0)) (expr_walk (context s) e.0 h.scope kind K6 h.met) (λ found. next found.0 found.1) (one_part s span h form at e kind has) (λ found is. done found.0 found.1 is)
+      then_fine (Bad s) (Meets s.program (h.before ++ expr_names e.0)) (Ends (h.before ++ expr_names e.0)) (expr_walk (context s) e.0 h.scope kind K6 h.met) (λ found. next found.0 found.1) (one_part s span h form at e kind has) (λ found is. done found.0 found.1 is)
 
   pub assert : (e : Proved s) → Holds (ExprForm-F.Assert (expr_walk (context s) e.0)) (expr_names e.0) (exprs.Assert e.0)
   assert e span h at =
@@ -131,7 +135,7 @@ module _ (s : Setting) where
 
   -- a type that is written in a form
   text_of : (text : TypeText) → written.IsWritten s.program s.aliases text.form text.span → Fine (Bad s) Any (walk s.aliases text)
-  text_of text w = type_fine s.program s.asked s.entries s.end s.aliases text w
+  text_of text w = type_fine s.program s.asked s.entries s.edition s.end s.aliases text w
 
   pub into : (text : TypeText) (e : Proved s) → Holds (ExprForm-F.Into text (expr_walk (context s) e.0)) (expr_names e.0) (exprs.Into text e.0)
   into text e span h at =

@@ -3,6 +3,7 @@ pub mod Types
 pub mod Names
 pub mod Patterns
 pub mod Here
+pub mod Again
 pub mod Leaves
 pub mod Many
 pub mod Blocks

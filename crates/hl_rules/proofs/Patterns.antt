@@ -24,9 +24,9 @@ use Rattle.hl_rules.specs.Witnesses.{Names, joined}
 use Rattle.hl_rules.proofs.Fine.{Fine, then_fine, after_needs, after_wants}
 use Rattle.hl_rules.proofs.Names.{names_of, has_among, named_more, joined_map, flat_more}
 
-module _ (program : List Item) (asked : List ℕ) (entries : List Entry) (end : ℕ) where
+module _ (program : List Item) (asked : List ℕ) (entries : List Entry) (edition end : ℕ) where
   abbrev Bad : Broken → Type 0
-  Bad = Breaks program asked entries end
+  Bad = Breaks program asked entries edition end
 
   abbrev form_walk : PatternForm → Span → PatternWalk
   form_walk form = fold-PatternForm (Span → PatternWalk) PatternWalk pattern_step (λ p. p.form p.span) form

@@ -32,9 +32,9 @@ counted_fine Bad mark h = go (is_count (decimal_value mark.text)) refl
     go true e = rw e refl
     go false e = rw e (h (omega (arith, ltb-false _ _ e)))
 
-module _ (program : List Item) (asked : List ℕ) (entries : List Entry) (end : ℕ) (aliases : List TypedName) where
+module _ (program : List Item) (asked : List ℕ) (entries : List Entry) (edition end : ℕ) (aliases : List TypedName) where
   abbrev Bad : Broken → Type 0
-  Bad = Breaks program asked entries end
+  Bad = Breaks program asked entries edition end
 
   abbrev FormClaim : TypeForm → Type 0
   FormClaim text = (span : Span) → IsWritten program aliases text span → Fine Bad Any (made_type aliases text span)
