@@ -1,6 +1,7 @@
 pub mod Every
 pub mod Once
 pub mod Steps
+pub mod Keeping
 pub mod Same
 pub mod Shapes
 pub mod Sound
