@@ -1,10 +1,11 @@
 pub mod Every
 pub mod Once
 pub mod Steps
-pub mod Keeping
 pub mod Same
 pub mod Shapes
 pub mod Sound
+pub mod Listed
+pub mod Keeping
 pub mod Widths
 pub mod Patterns
 pub mod Claims
