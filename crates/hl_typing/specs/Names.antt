@@ -1,7 +1,7 @@
 -- The witnesses that a function of a typed program names, in the order in which its term holds them.
 --
--- In edition 1 they stand in the text's order, except that in a match the arm of `Left`, `None` or `false` goes before the other. In
--- edition 2 they stand in the order of their first places in the text, each once.
+-- In edition 1 they stand in the text's order, except that in a match the arm of `Left`, `None` or `false` goes before the
+-- other. In edition 2 they stand in the order of their first places in the text, each once.
 use Rattle.std.specs.Prelude.{ℕ, Bool, true, false, List, [], ◌∷◌, ◌++◌, flat_map, nat_eq, if◌then◌else◌}
 use Rattle.hl_data.specs.declared.typed.TypedArm.{TypedArm}
 use Rattle.hl_data.specs.declared.typed.TypedExpr.{TypedExpr}
