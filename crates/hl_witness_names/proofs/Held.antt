@@ -111,19 +111,19 @@ last_named : (before : List TypedFunction) (f : TypedFunction) → Quiet f → h
     flat_map text_names (before ++ f ∷ []) ≡ names_if (function_of (before ++ f ∷ []) main_name)
 last_named before f silent fresh r =
     let joins : flat_map text_names (before ++ f ∷ []) ≡ names_if (function_of before main_name) ++ text_names f =
-        flat_map-append text_names before (f ∷ [])
-        ∙ ap (λ ns. flat_map text_names before ++ ns) (append-nil (text_names f))
-        ∙ ap (λ ns. ns ++ text_names f) r.named in
+    flat_map-append text_names before (f ∷ [])
+    ∙ ap (λ ns. flat_map text_names before ++ ns) (append-nil (text_names f))
+    ∙ ap (λ ns. ns ++ text_names f) r.named in
     elim (bytes_eq main_name f.name)
     as (λ b. bytes_eq main_name f.name ≡ b →
-        flat_map text_names (before ++ f ∷ []) ≡ names_if (function_of (before ++ f ∷ []) main_name)) [
+    flat_map text_names (before ++ f ∷ []) ≡ names_if (function_of (before ++ f ∷ []) main_name)) [
       | true ↦ λ is.
-        let none : has_function before main_name ≡ false = ap (has_function before) (same_words main_name f.name is) ∙ fresh in
-        joins ∙ ap (λ o. names_if o ++ text_names f) (nowhere before main_name none)
-        ∙ ap names_if (sym (reached before f main_name is none))
+          let none : has_function before main_name ≡ false = ap (has_function before) (same_words main_name f.name is) ∙ fresh in
+          joins ∙ ap (λ o. names_if o ++ text_names f) (nowhere before main_name none)
+          ∙ ap names_if (sym (reached before f main_name is none))
       | false ↦ λ is.
-        joins ∙ ap (λ ns. names_if (function_of before main_name) ++ ns) (silent (other_words main_name f.name is))
-        ∙ append-nil _ ∙ ap names_if (sym (passed before f main_name is))
+          joins ∙ ap (λ ns. names_if (function_of before main_name) ++ ns) (silent (other_words main_name f.name is))
+          ∙ append-nil _ ∙ ap names_if (sym (passed before f main_name is))
     ] refl
 
 of_main : (witnesses : List TypedName) (functions : List TypedFunction) → FunctionsTyped witnesses functions → OfMain functions
@@ -183,9 +183,9 @@ holds : (program : Checked) → listed program ≡ listed_names program.edition 
     bytes_eq name f.name ≡ true → Permuted f → Quiet f → Holds program f
 holds program are name f found is permuted silent =
     let as_main : IsTrue (is_main f.name) → function_of program.functions main_name ≡ Some f =
-        λ main. ap (function_of program.functions) (sym (same_words name f.name is ∙ same_words f.name main_name main)) ∙ found in
+    λ main. ap (function_of program.functions) (sym (same_words name f.name is ∙ same_words f.name main_name main)) ∙ found in
     let same : IsTrue (is_main f.name) → listed program ≡ listed_names program.edition (text_names f) =
-        λ main. are ∙ ap (λ o. listed_names program.edition (names_if o)) (as_main main) in
+    λ main. are ∙ ap (λ o. listed_names program.edition (names_if o)) (as_main main) in
     record {
       all = λ main. subst (IsPermutation (witness_names program.edition f)) (sym (same main)) (main_permuted program.edition f permuted);
       in_order = λ main two. main_in_order program.edition f two ∙ sym (same main);
@@ -199,15 +199,15 @@ held erased typed named source asked entries edition end program valued h =
     let m = of_main program.witnesses program.functions t.functions in
     let e = edition_kept source asked entries edition end program h in
     let are : listed program ≡ listed_names program.edition (names_if (function_of program.functions main_name)) =
-        named source asked entries edition end program h ∙ ap (listed_names edition) (sym s.named ∙ m.named)
-        ∙ ap (λ n. listed_names n (names_if (function_of program.functions main_name))) e in
+    named source asked entries edition end program h ∙ ap (listed_names edition) (sym s.named ∙ m.named)
+    ∙ ap (λ n. listed_names n (names_if (function_of program.functions main_name))) e in
     record {
       once = t.once;
       held = λ name f found.
-        let p = every_found Permuted (λ g. bytes_eq name g.name) program.functions f s.permuted found in
-        let q = every_found Quiet (λ g. bytes_eq name g.name) program.functions f m.others found in
-        holds program are name f found p.1 p.0 q.0;
+          let p = every_found Permuted (λ g. bytes_eq name g.name) program.functions f s.permuted found in
+          let q = every_found Quiet (λ g. bytes_eq name g.name) program.functions f m.others found in
+          holds program are name f found p.1 p.0 q.0;
       no_main = λ none.
-        let empty = ap (λ o. listed_names program.edition (names_if o)) (nowhere program.functions main_name none) in
-        no_witness program.witnesses (are ∙ empty ∙ none_listed program.edition);
+          let empty = ap (λ o. listed_names program.edition (names_if o)) (nowhere program.functions main_name none) in
+          no_witness program.witnesses (are ∙ empty ∙ none_listed program.edition);
     }

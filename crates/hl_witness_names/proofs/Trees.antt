@@ -99,12 +99,12 @@ match_same : (e : TypedExpr) (one two : TypedArm) (source : Expr) (first second 
     Claim (ArmOf one first) → Claim (ArmOf two second) → FormSame (typed.Match e (one ∷ two ∷ [])) (exprs.Match source (first ∷ second ∷ []))
 match_same e one two source first second h k l =
     let arms : (order : Order) → (a b : ArmNames) → a ≡ names_in_arm order one → b ≡ names_in_arm order two →
-        typed_layer order (TypedForm-F.Match e (one ∷ two ∷ [])) ≡ names_in order e ++ order (a ∷ b ∷ []) =
-        λ order a b p q. ap (λ c. names_in order e ++ order (c ∷ names_in_arm order two ∷ [])) (sym p)
-        ∙ ap (λ c. names_in order e ++ order (a ∷ c ∷ [])) (sym q) in
+    typed_layer order (TypedForm-F.Match e (one ∷ two ∷ [])) ≡ names_in order e ++ order (a ∷ b ∷ []) =
+    λ order a b p q. ap (λ c. names_in order e ++ order (c ∷ names_in_arm order two ∷ [])) (sym p)
+    ∙ ap (λ c. names_in order e ++ order (a ∷ c ∷ [])) (sym q) in
     let at_arms : (order : Order) →
-        typed_layer order (TypedForm-F.Match e (one ∷ two ∷ [])) ≡ names_in order e ++ order (arm_of order one ∷ arm_of order two ∷ []) =
-        λ order. arms order (arm_of order one) (arm_of order two) (sym (typed_arm order one)) (sym (typed_arm order two)) in
+    typed_layer order (TypedForm-F.Match e (one ∷ two ∷ [])) ≡ names_in order e ++ order (arm_of order one ∷ arm_of order two ∷ []) =
+    λ order. arms order (arm_of order one) (arm_of order two) (sym (typed_arm order one)) (sym (typed_arm order two)) in
     let same = arms_same (goes_first one.side) _ _ _ _ _ _ k l in
     made (TypedForm-F.Match e (one ∷ two ∷ [])) _ (typed.rolls-Match e (one ∷ two ∷ [])) (ExprForm-F.Match source (first ∷ second ∷ [])) _
     (exprs.rolls-Match source (first ∷ second ∷ []))

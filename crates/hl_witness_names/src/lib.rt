@@ -7,7 +7,7 @@ ghost use Rattle.hl_witness_names.specs.Laws.{AnsweredIsHeld, AreHeld};
 use hl_typed::TypedProgram;
 
 /// The names that `main` of a program holds, in the order in which its term has them, are those of
-/// the program's witnesses, each once: in edition 2 in their order, in edition 1 in another. Another
+/// the program's witnesses, each once: in edition 2 in their order, in edition 1 in some order. Another
 /// function holds none.
 pub fn answered_witnesses_are_held()
     ensures { AnsweredIsHeld }
