@@ -1,5 +1,5 @@
 -- Witnesses that stand again: where a name was met, its first place, and what is broken at the next.
-use Rattle.std.proofs.Common.{◌≡◌, ◌≢◌, ℕ, Bool, true, false, not, ◌&&◌, nat_eq, List, [], ◌∷◌, ◌++◌, bytes_eq, Option, Some, None, refl, sym, ap, ◌∙◌, IsTrue, eqb-true}
+use Rattle.std.proofs.Common.{◌≡◌, ℕ, Bool, true, false, not, ◌&&◌, nat_eq, List, [], ◌∷◌, ◌++◌, bytes_eq, Option, Some, None, refl, sym, ap, ◌∙◌, IsTrue, eqb-true}
 use Rattle.std.proofs.lemmas.Bool.{eqb-false}
 use Rattle.std.proofs.lemmas.Slice.Eq.{bytes_eq-Decides}
 use Rattle.hl_syntax.specs.declared.kinds.HlType.{HlType}
@@ -17,7 +17,7 @@ use Rattle.hl_rules.specs.Occurs.{Place, Occurs}
 use Rattle.hl_rules.specs.Places.{has_name, variable_type}
 use Rattle.hl_rules.specs.Same.{same_type}
 use Rattle.hl_rules.proofs.Here.{Setting, Here, Bad, AreMet, none_met, one_met, place}
-use Rattle.hl_rules.proofs.Names.{names_of, has_among}
+use Rattle.hl_rules.proofs.Names.{has_among}
 
 same_some : {A : Type 0} (x y : A) → Some x ≡ Some y → x ≡ y
 same_some x y e = cc
@@ -38,6 +38,7 @@ came (m ∷ met) w name kind h = go (bytes_eq name m.name) refl (λ r. came met 
     past : bytes_eq name m.name ≡ false → Came met w name kind → Came (m ∷ met) w name kind
     past e (before b) = before (rw e b)
     past e (last none this is) = last (rw e none) this is
+
     go : (b : Bool) → bytes_eq name m.name ≡ b → (variable_type (met ++ w ∷ []) name ≡ Some kind → Came met w name kind) → Came (m ∷ met) w name kind
     go true e rest = before (rw e (rw e at h))
     go false e rest = past e (rest (rw e at h))
@@ -98,6 +99,7 @@ module _ (s : Setting) (name : Mark) (span : Span) (h : Here s.program) (at : Oc
       by_edition : (kind : HlType) → variable_type h.met name.text ≡ Some kind → (nat_eq s.edition 2 && same_type kind h.expected) ≡ false → (b : Bool) → nat_eq s.edition 2 ≡ b → Bad s (breaks_rule K17 name.span)
       by_edition kind is wrong false first = breaks.k17 (place s h) name span (eqb-false s.edition 2 first) at (among kind is)
       by_edition kind is wrong true second = typed_otherwise kind (eqb-true s.edition 2 second) is (rw second at wrong)
+
       go : (known : Option HlType) → variable_type h.met name.text ≡ known → Bad s (breaks_rule K17 name.span)
       go None is = let wrong = ap (stands_again s.edition h.expected) (sym is) ∙ e in absurd (cc)
       go (Some kind) is = by_edition kind is (ap (stands_again s.edition h.expected) (sym is) ∙ e) (nat_eq s.edition 2) refl

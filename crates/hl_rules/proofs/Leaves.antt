@@ -1,5 +1,5 @@
 -- Expressions that are no block and no match: what their walk answers is broken there.
-use Rattle.std.proofs.Common.{◌≡◌, ◌≢◌, ◌^◌, ℕ, Bool, true, false, not, nat_lt, List, [], ◌∷◌, ◌++◌, Result, refl, sym, ap, ◌∙◌, append-nil, arith, IsTrue, ltb-false}
+use Rattle.std.proofs.Common.{◌≡◌, ◌≢◌, ◌^◌, ℕ, Bool, true, false, not, nat_lt, List, [], ◌∷◌, ◌++◌, Result, refl, sym, append-nil, arith, IsTrue, ltb-false}
 use Rattle.hl_syntax.specs.declared.kinds.HlType.{HlType}
 use Rattle.hl_syntax.specs.declared.kinds.HlType.TheVariants as kind
 use Rattle.hl_syntax.specs.declared.kinds.TypedName.{TypedName}
@@ -13,7 +13,6 @@ use Rattle.hl_syntax.specs.declared.tree.TypeText.{TypeText}
 use Rattle.hl_data.specs.declared.typed.TypedExpr.{TypedExpr}
 use Rattle.hl_data.specs.declared.typed.TypedForm.{TypedForm}
 use Rattle.simplicity.specs.Types.{Kind, One, Sum, Product}
-use Rattle.simplicityhl.specs.Grammar.{is_among}
 use Rattle.simplicityhl.specs.Kinds.{form}
 use Rattle.simplicityhl.specs.Written.{Broken, breaks_rule, walk, then_walk}
 use Rattle.hl_meaning.specs.Literals.{literal_value}
@@ -29,7 +28,7 @@ use Rattle.hl_rules.specs.Witnesses.{Names, expr_names}
 use Rattle.hl_rules.proofs.Fine.{Fine, then_fine, body_needs, body_wants, body_step}
 use Rattle.hl_rules.proofs.Again.{broken_again}
 use Rattle.hl_rules.proofs.Here.{Setting, Here, Met, one_met, ◌⊙◌, Meets, At, Bad, Proved, context, place, misfit, one_part, rule_of}
-use Rattle.hl_rules.proofs.Names.{names_of, has_among, named_more}
+use Rattle.hl_rules.proofs.Names.{named_more}
 use Rattle.hl_rules.proofs.Types.{type_fine, Any}
 
 same_refl : (k : Kind) → same_kind k k ≡ true

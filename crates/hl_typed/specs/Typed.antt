@@ -1,6 +1,6 @@
 -- Typed programs, which break no rule and no limit.
 use Rattle.std.specs.Prelude.{◌≡◌, ℕ, List, Ok, refl}
-use Rattle.std.specs.Coded.{Coded, code_by, coded×, coded_list, coded_nat}
+use Rattle.std.specs.Coded.{Coded, code_by, coded×, coded_list, coded_ℕ}
 use Rattle.hl_syntax.specs.contracts.kinds.TypedName as names
 use Rattle.hl_data.specs.contracts.typed.TypedFunction as typed
 use Rattle.hl_syntax.specs.declared.kinds.TypedName.{TypedName}
@@ -23,5 +23,5 @@ pub record BreaksNothing (found : Checked) : Type 0 where
 -- a typed program is told from others by its parts
 abbrev pub coded_checked : Coded Checked
 coded_checked =
-    code_by (List TypedFunction × List TypedName × ℕ) (coded× (coded_list typed.the_row.coded) (coded× (coded_list names.the_row.coded) coded_nat))
-    (λ found. (found.functions, found.witnesses, found.edition)) (λ p. record { functions = p.0; witnesses = p.1; edition = p.2 }) (λ _. refl)
+    code_by (List TypedFunction × (List TypedName × ℕ)) (coded× (coded_list typed.the_row.coded) (coded× (coded_list names.the_row.coded) coded_ℕ))
+    (λ found. (found.functions, (found.witnesses, found.edition))) (λ p. record { functions = p.0; witnesses = p.1.0; edition = p.1.1 }) (λ _. refl)

@@ -69,15 +69,15 @@ module _ (s : Setting) where
 
   pub let_good : (pattern : Pattern) (text : TypeText) (p : Proved s) (span : Span) → GoodStatement (let_walk s.context.aliases pattern text (walk_of s p)) (statements.Let pattern text p.0 span)
   let_good pattern text p span scope =
-      step_good s.context.in_main M (walk s.context.aliases text) (λ item is. step_good s.context.in_main M (pattern_walk pattern item []) (λ names names_are.
-      then_good s.context.in_main M (p.1 scope item K6 (walk_sound s.context.aliases s.aliases text item is)) (λ found. done_good s.context.in_main M (λ part. record {
+      step_good s.context M (walk s.context.aliases text) (λ item is. step_good s.context M (pattern_walk pattern item []) (λ names names_are.
+      then_good s.context M (p.1 scope item K6 (walk_sound s.context.aliases s.aliases text item is)) (λ found. done_good s.context M (λ part. record {
         typed = λ k ss last after. rule.binding scope k item pattern names found ss last (binds_once item pattern names names_are) part.typed after;
         erased = erased.binding pattern text item found p.0 span is part.erased;
       }))))
 
   pub plain_good : (p : Proved s) → GoodStatement (plain_walk (walk_of s p)) (statements.Plain p.0)
   plain_good p scope =
-      then_good s.context.in_main M (p.1 scope unit_type K23 unit_sound) (λ found. done_good s.context.in_main M (λ part. record {
+      then_good s.context M (p.1 scope unit_type K23 unit_sound) (λ found. done_good s.context M (λ part. record {
         typed = λ k ss last after. rule.plain scope k found ss last part.typed after;
         erased = erased.plain found p.0 part.erased;
       }))
@@ -87,9 +87,9 @@ module _ (s : Setting) where
     are : Erased s.context.aliases s.context.entries (StatementsOf found.0 sources)
 
   statements_good : (ps : List ProvedStatement) (scope : Scope) → GoodWalk s (statements_walk (statement_walks ps) scope) (BlockHolds scope (statements_of ps))
-  statements_good [] scope = done_good s.context.in_main M (record { block = λ k last h. h; are = erased.no_statement })
+  statements_good [] scope = done_good s.context M (record { block = λ k last h. h; are = erased.no_statement })
   statements_good (p ∷ ps) scope =
-      then_good s.context.in_main M (p.1 scope) (λ first. then_good s.context.in_main M (statements_good ps first.1) (λ rest. done_good s.context.in_main M (λ others one. record {
+      then_good s.context M (p.1 scope) (λ first. then_good s.context M (statements_good ps first.1) (λ rest. done_good s.context M (λ others one. record {
         block = λ k last h. one.typed k rest.0 last (others.block k last h);
         are = erased.one_statement first.0 rest.0 p.0 (statements_of ps) one.erased others.are;
       })))
@@ -100,14 +100,14 @@ module _ (s : Setting) where
 
   last_none : (span : Span) (scope : Scope) (expected : HlType) (rule' : Rule) → GoodWalk s (last_walk None span scope expected rule') (LastHolds scope expected None)
   last_none span scope expected rule' =
-      needs_good s.context.in_main M (same_type unit_type expected) rule' span _ (λ same. done_good s.context.in_main M (record {
+      needs_good s.context M (same_type unit_type expected) rule' span _ (λ same. done_good s.context M (record {
         ends = subst (λ (k : HlType). Typed (around s) (BlockAt scope k [] None)) (same_equal unit_type expected same) (rule.no_last scope);
         is = erased.no_last;
       }))
 
   last_some : (p : Proved s) (span : Span) (scope : Scope) (expected : HlType) (rule' : Rule) → IsSound expected → GoodWalk s (last_walk (Some (walk_of s p)) span scope expected rule') (LastHolds scope expected (Some p.0))
   last_some p span scope expected rule' sound =
-      then_good s.context.in_main M (p.1 scope expected K6 sound) (λ found. done_good s.context.in_main M (λ part. record { ends = rule.last scope expected found part.typed; is = erased.last found p.0 part.erased }))
+      then_good s.context M (p.1 scope expected K6 sound) (λ found. done_good s.context M (λ part. record { ends = rule.last scope expected found part.typed; is = erased.last found p.0 part.erased }))
 
   whole_block : (scope : Scope) (expected : HlType) (sources : List Statement) (source : Option Expr) (found : List TypedStatement × Scope) (end : Option TypedExpr) → BlockHolds scope sources found → LastHolds found.1 expected source end →
       FormHolds s scope expected (exprs.Block sources source) (typed.Block found.0 end)
@@ -118,12 +118,12 @@ module _ (s : Setting) where
 
   pub block_without : (ps : List ProvedStatement) → GoodForm s (form_step s.context (ExprForm-F.Block (statement_walks ps) None)) (exprs.Block (statements_of ps) None)
   block_without ps span scope expected rule' sound =
-      then_good s.context.in_main M (statements_good ps scope) (λ found. then_good s.context.in_main M (last_none span found.1 expected rule') (λ end. done_good s.context.in_main M (λ ending begins.
+      then_good s.context M (statements_good ps scope) (λ found. then_good s.context M (last_none span found.1 expected rule') (λ end. done_good s.context M (λ ending begins.
       whole_block scope expected (statements_of ps) None found end begins ending)))
 
   pub block_with : (ps : List ProvedStatement) (p : Proved s) → GoodForm s (form_step s.context (ExprForm-F.Block (statement_walks ps) (Some (walk_of s p)))) (exprs.Block (statements_of ps) (Some p.0))
   block_with ps p span scope expected rule' sound =
-      then_good s.context.in_main M (statements_good ps scope) (λ found. then_good s.context.in_main M (last_some p span found.1 expected rule' sound) (λ end. done_good s.context.in_main M (λ ending begins.
+      then_good s.context M (statements_good ps scope) (λ found. then_good s.context M (last_some p span found.1 expected rule' sound) (λ end. done_good s.context M (λ ending begins.
       whole_block scope expected (statements_of ps) (Some p.0) found end begins ending)))
 
   -- Matches.
@@ -222,11 +222,11 @@ module _ (s : Setting) where
 
   arms_good : (p : Proved s) (one two : ProvedArm) → GoodForm s (match_walk s.context.aliases (walk_of s p) (plain_arm one.0) (plain_arm two.0)) (exprs.Match p.0 (one.0 ∷ two.0 ∷ []))
   arms_good p one two span scope expected rule' sound =
-      needs_good s.context.in_main M (are_sides one.0.side two.0.side) K13 span _ (λ are. step_good s.context.in_main M (side_walk s.context.aliases one.0.side) (λ first first_is.
-      step_good s.context.in_main M (side_walk s.context.aliases two.0.side) (λ second second_is.
+      needs_good s.context M (are_sides one.0.side two.0.side) K13 span _ (λ are. step_good s.context M (side_walk s.context.aliases one.0.side) (λ first first_is.
+      step_good s.context M (side_walk s.context.aliases two.0.side) (λ second second_is.
       let t = two_sides one.0.side two.0.side first second are first_is second_is in
-      then_good s.context.in_main M (p.1 scope (matched_type first.0 second.0) K6 t.sound) (λ value. then_good s.context.in_main M (one.1 (first.1 ++ scope) expected K6 sound) (λ body.
-      then_good s.context.in_main M (two.1 (second.1 ++ scope) expected K6 sound) (λ other. done_good s.context.in_main M (λ others bodies values.
+      then_good s.context M (p.1 scope (matched_type first.0 second.0) K6 t.sound) (λ value. then_good s.context M (one.1 (first.1 ++ scope) expected K6 sound) (λ body.
+      then_good s.context M (two.1 (second.1 ++ scope) expected K6 sound) (λ other. done_good s.context M (λ others bodies values.
       let a : TypedArm = record { side = first.0; body = body } in let b : TypedArm = record { side = second.0; body = other } in
       record {
         typed = rule.matched scope (matched_type first.0 second.0) expected value a b first.1 second.1 t.sides values.typed bodies.typed others.typed;

@@ -47,12 +47,12 @@ module _ (s : Setting) where
   form_claim : (y : ExprForm-F ProvedForm (ProvedStatement s) (ProvedArm s) (Proved s)) → FormClaim (rolled y)
   form_claim (ExprForm-F.Block ps None) = made (ExprForm-F.Block (statements_of s ps) None) (exprs.Block (statements_of s ps) None) (exprs.rolls-Block (statements_of s ps) None) (block_without s ps)
   form_claim (ExprForm-F.Block ps (Some e)) = made (ExprForm-F.Block (statements_of s ps) (Some e.0)) (exprs.Block (statements_of s ps) (Some e.0)) (exprs.rolls-Block (statements_of s ps) (Some e.0)) (block_with s ps e)
-  form_claim (ExprForm-F.Match e []) = made (ExprForm-F.Match e.0 []) (exprs.Match e.0 []) (exprs.rolls-Match e.0 []) (λ span scope expected rule sound. refuse_good s.context.in_main (IsMet s))
-  form_claim (ExprForm-F.Match e (one ∷ [])) = made (ExprForm-F.Match e.0 (one.0 ∷ [])) (exprs.Match e.0 (one.0 ∷ [])) (exprs.rolls-Match e.0 (one.0 ∷ [])) (λ span scope expected rule sound. refuse_good s.context.in_main (IsMet s))
+  form_claim (ExprForm-F.Match e []) = made (ExprForm-F.Match e.0 []) (exprs.Match e.0 []) (exprs.rolls-Match e.0 []) (λ span scope expected rule sound. refuse_good s.context (IsMet s))
+  form_claim (ExprForm-F.Match e (one ∷ [])) = made (ExprForm-F.Match e.0 (one.0 ∷ [])) (exprs.Match e.0 (one.0 ∷ [])) (exprs.rolls-Match e.0 (one.0 ∷ [])) (λ span scope expected rule sound. refuse_good s.context (IsMet s))
   form_claim (ExprForm-F.Match e (one ∷ two ∷ [])) = made (ExprForm-F.Match e.0 (one.0 ∷ two.0 ∷ [])) (exprs.Match e.0 (one.0 ∷ two.0 ∷ [])) (exprs.rolls-Match e.0 (one.0 ∷ two.0 ∷ [])) (match_good s e one two)
   form_claim (ExprForm-F.Match e (one ∷ two ∷ three ∷ more)) =
       let arms = one.0 ∷ two.0 ∷ three.0 ∷ map arm_of more in
-      made (ExprForm-F.Match e.0 arms) (exprs.Match e.0 arms) (exprs.rolls-Match e.0 arms) (λ span scope expected rule sound. refuse_good s.context.in_main (IsMet s))
+      made (ExprForm-F.Match e.0 arms) (exprs.Match e.0 arms) (exprs.rolls-Match e.0 arms) (λ span scope expected rule sound. refuse_good s.context (IsMet s))
   form_claim (ExprForm-F.Tuple ps) = made (ExprForm-F.Tuple (exprs_of s ps)) (exprs.Tuple (exprs_of s ps)) (exprs.rolls-Tuple (exprs_of s ps)) (many.tuple s ps)
   form_claim (ExprForm-F.Array ps) = made (ExprForm-F.Array (exprs_of s ps)) (exprs.Array (exprs_of s ps)) (exprs.rolls-Array (exprs_of s ps)) (many.array s ps)
   form_claim (ExprForm-F.List ps) = made (ExprForm-F.List (exprs_of s ps)) (exprs.List (exprs_of s ps)) (exprs.rolls-List (exprs_of s ps)) (many.list s ps)
@@ -96,7 +96,7 @@ module _ (s : Setting) where
   expr_claim e claim scope expected rule' sound =
       let walks = fold_out-Expr FormWalk StatementWalk ArmWalk ExprWalk (form_step s.context) (statement_step s.context) (arm_step s.context) (expr_step s.context) e in
       subst (λ (w : ExprWalk). GoodExpr s w e) (sym walks)
-      (λ scope expected rule' sound. then_good s.context.in_main (IsMet s) (claim e.span scope expected rule' sound) (λ found. done_good s.context.in_main (IsMet s) (λ part. record {
+      (λ scope expected rule' sound. then_good s.context (IsMet s) (claim e.span scope expected rule' sound) (λ found. done_good s.context (IsMet s) (λ part. record {
         typed = rule.expr scope expected (record { kind = expected; form = found }) refl sound part.typed;
         erased = part.erased;
       }))) scope expected rule' sound

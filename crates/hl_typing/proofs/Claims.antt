@@ -40,7 +40,7 @@ module _ (s : Setting) where
   around = record { functions = s.context.functions; witnesses = s.witnesses }
 
   abbrev pub GoodWalk : {A : Type 0} → Walk A → (A → Type 0) → Type 0
-  GoodWalk w Q = Good s.context.in_main IsMet w Q
+  GoodWalk w Q = Good s.context IsMet w Q
 
   -- a form at a type in a scope, and the form of the source that it is of
   pub record FormHolds (scope : Scope) (k : HlType) (source : ExprForm) (form : TypedForm) : Type 0 where

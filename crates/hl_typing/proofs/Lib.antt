@@ -4,6 +4,8 @@ pub mod Steps
 pub mod Same
 pub mod Shapes
 pub mod Sound
+pub mod Listed
+pub mod Keeping
 pub mod Widths
 pub mod Patterns
 pub mod Claims

@@ -27,6 +27,7 @@ use Rattle.hl_rules.specs.Places.{Context, is_main, has_name, variable_type}
 use Rattle.hl_rules.specs.Programs.{Known, Checked, checked, checked_of, program_walk, function_walk, item_walk, items_walk}
 use Rattle.hl_rules.specs.Same.{same_type, unit_type}
 use Rattle.hl_rules.specs.Steps.{needs}
+use Rattle.hl_rules.specs.Witnesses.{listed_witnesses}
 use Rattle.hl_rules.specs.Walks as walks
 use Rattle.hl_typed.specs.Typed.{BreaksNothing}
 use Rattle.hl_typing.specs.Erased.{Erased, FormOf}
@@ -39,7 +40,8 @@ use Rattle.hl_typing.proofs.Every.{Every, every_of, every_join}
 use Rattle.hl_typing.proofs.Once.{once_more, not_true, neither, other_way}
 use Rattle.hl_typing.proofs.Same.{same_equal}
 use Rattle.hl_typing.proofs.Sound.{walk_sound, unit_sound}
-use Rattle.hl_typing.proofs.Steps.{ran, ok_same, needs_ok}
+use Rattle.hl_typing.proofs.Listed.{listed_once, listed_agree}
+use Rattle.hl_typing.proofs.Steps.{Apart, ran, ok_same, needs_ok}
 
 all_from : {A : Type 0} (P : A → Type 0) (xs : List A) → Every P xs → All P xs
 all_from P [] h = All-nil P
@@ -47,24 +49,6 @@ all_from P (x ∷ xs) h = All-cons P x xs h.0 (all_from P xs h.1)
 
 one_sound : (names : List TypedName) (n : TypedName) → AreSound names → IsSound n.kind → AreSound (names ++ n ∷ [])
 one_sound names n h k = every_join (λ (m : TypedName). IsSound m.kind) names (n ∷ []) h (k, tt)
-
--- names that stand once have their own types
-
-found_other : (n m : TypedName) (names : List TypedName) → bytes_eq m.name n.name ≡ false → variable_type names m.name ≡ Some m.kind → variable_type (n ∷ names) m.name ≡ Some m.kind
-found_other n m names other h = ap (λ b. option_map (λ (k : TypedName). k.kind) (cond b (Some n) (find (λ k. bytes_eq m.name k.name) names))) other ∙ h
-
-found_more : (n : TypedName) (names more : List TypedName) → has_name names n.name ≡ false → Every (λ (m : TypedName). variable_type more m.name ≡ Some m.kind) names → Every (λ (m : TypedName). variable_type (n ∷ more) m.name ≡ Some m.kind) names
-found_more n [] more none h = tt
-found_more n (m ∷ names) more none h =
-    let apart = neither (bytes_eq n.name m.name) (has_name names n.name) none in
-    (found_other n m more (other_way n.name m.name apart.0) h.0, found_more n names more apart.1 h.1)
-
-found_first : (n : TypedName) (names : List TypedName) → variable_type (n ∷ names) n.name ≡ Some n.kind
-found_first n names = ap (λ b. option_map (λ (k : TypedName). k.kind) (cond b (Some n) (find (λ k. bytes_eq n.name k.name) names))) ((bytes_eq-Decides n.name n.name).1 refl)
-
-found_once : (names : List TypedName) → Once names → Every (λ (n : TypedName). variable_type names n.name ≡ Some n.kind) names
-found_once [] once = tt
-found_once (n ∷ names) once = (found_first n names, found_more n names names once.0 (found_once names once.1))
 
 -- Heads of functions.
 
@@ -137,7 +121,7 @@ module _ (aliases : List TypedName) (sound : AreSound aliases) where
 
 -- Functions and items, each after those before it.
 
-module _ (entries : List Entry) (valued : Every IsValued entries) (witnesses : List TypedName) where
+module _ (entries : List Entry) (valued : Every IsValued entries) (edition : ℕ) (witnesses : List TypedName) where
   -- a witness that is met is one of the program's, at its type
   abbrev P : TypedName → Type 0
   P n = variable_type witnesses n.name ≡ Some n.kind
@@ -155,12 +139,12 @@ module _ (entries : List Entry) (valued : Every IsValued entries) (witnesses : L
     named : f.name ≡ name.text
     head : HeadHolds known.aliases sound known.functions f.name params text (record { params = f.params; result = f.result })
     kept : Every P after → Every P met
-    once : Once met → Once after
+    once : Apart edition met → Apart edition after
     holds : Every P after → FunctionHolds known body f
 
   abbrev setting : (known : Known) → KnownSound known → Bool → List TypedName → Setting
   setting known k in_main witnesses = record {
-    context = record { aliases = known.aliases; functions = known.functions; entries = entries; in_main = in_main };
+    context = record { aliases = known.aliases; functions = known.functions; entries = entries; in_main = in_main; edition = edition };
     witnesses = witnesses;
     aliases = k.aliases;
     entries = valued;
@@ -172,14 +156,14 @@ module _ (entries : List Entry) (valued : Every IsValued entries) (witnesses : L
   given false after h main = absurd (cc)
 
   function_good : (known : Known) (k : KnownSound known) (name : Mark) (params : List Param) (text : Option TypeText) (body : Expr) (met after : List TypedName) (f : TypedFunction) →
-      function_walk entries known name params text body met ≡ Ok (f, after) → FunctionGood known k.aliases name params text body met after f
+      function_walk entries edition known name params text body met ≡ Ok (f, after) → FunctionGood known k.aliases name params text body met after f
   function_good known k name params text body met after f h =
       let a = ran (then_walk (head_walk known.aliases known.functions name params text) (λ head. let pair : Head × List TypedName = (head, met) in Ok pair)) _ (f, after) h in
       let b = ran (head_walk known.aliases known.functions name params text) _ a.from a.was in
       let met_is : met ≡ a.from.1 = ap (λ p. p.1) (ok_same b.is) in
       let head_ok : head_walk known.aliases known.functions name params text ≡ Ok a.from.0 = b.was ∙ ap Ok (ap (λ p. p.0) (ok_same b.is)) in
       let head = head_holds known.aliases k.aliases known.functions name params text a.from.0 head_ok in
-      let context : Context = record { aliases = known.aliases; functions = known.functions; entries = entries; in_main = is_main name.text } in
+      let context : Context = record { aliases = known.aliases; functions = known.functions; entries = entries; in_main = is_main name.text; edition = edition } in
       let c = ran (expr_walk context body a.from.0.params a.from.0.result K6 a.from.1) _ (f, after) a.is in
       let all = expr_good (setting known k (is_main name.text) witnesses) body a.from.0.params a.from.0.result K6 head.result in
       let own = expr_good (setting known k (is_main name.text) (witnesses_of name.text witnesses)) body a.from.0.params a.from.0.result K6 head.result in
@@ -189,7 +173,7 @@ module _ (entries : List Entry) (valued : Every IsValued entries) (witnesses : L
         named = refl;
         head = head;
         kept = λ v. subst (Every P) (sym met_is) (all.kept a.from.1 c.from.1 c.from.0 c.was (subst (Every P) (sym after_is) v));
-        once = λ v. subst Once after_is (all.once a.from.1 c.from.1 c.from.0 c.was (subst Once met_is v));
+        once = λ v. subst (Apart edition) after_is (all.once a.from.1 c.from.1 c.from.0 c.was (subst (Apart edition) met_is v));
         holds = λ v.
             let part = own.holds a.from.1 c.from.1 c.from.0 c.was (given (is_main name.text) c.from.1 (subst (Every P) (sym after_is) v)) in
             record {
@@ -206,17 +190,17 @@ module _ (entries : List Entry) (valued : Every IsValued entries) (witnesses : L
 
   record ItemsGood (known : Known) (program : List Item) (met after : List TypedName) (next : Known) : Type 0 where
     kept : Every P after → Every P met
-    once : Once met → Once after
+    once : Apart edition met → Apart edition after
     typed : Every P after → FunctionsTyped witnesses known.functions → FunctionsTyped witnesses next.functions
     adds : Every P after → Adds known program next
 
-  none_good : (known : Known) (met after : List TypedName) (next : Known) → items_walk entries known [] met ≡ Ok (next, after) → ItemsGood known [] met after next
+  none_good : (known : Known) (met after : List TypedName) (next : Known) → items_walk entries edition known [] met ≡ Ok (next, after) → ItemsGood known [] met after next
   none_good known met after next h =
       let same = ok_same h in
       let met_is : met ≡ after = ap (λ p. p.1) same in
       subst (ItemsGood known [] met after) (ap (λ p. p.0) same) (record {
         kept = subst (Every P) (sym met_is);
-        once = subst Once met_is;
+        once = subst (Apart edition) met_is;
         typed = λ v t. t;
         adds = λ v. record { added = []; is = sym (append-nil known.functions); erased = no_item known.aliases };
       })
@@ -251,10 +235,10 @@ module _ (entries : List Entry) (valued : Every IsValued entries) (witnesses : L
         };
   }
 
-  items_good : (known : Known) (k : KnownSound known) (program : List Item) (met after : List TypedName) (next : Known) → items_walk entries known program met ≡ Ok (next, after) → ItemsGood known program met after next
+  items_good : (known : Known) (k : KnownSound known) (program : List Item) (met after : List TypedName) (next : Known) → items_walk entries edition known program met ≡ Ok (next, after) → ItemsGood known program met after next
   items_good known k [] met after next h = none_good known met after next h
   items_good known k (items.Alias name text span ∷ more) met after next h =
-      let a = ran (item_walk entries known (items.Alias name text span) met) _ (next, after) h in
+      let a = ran (item_walk entries edition known (items.Alias name text span) met) _ (next, after) h in
       let b = ran (then_walk (alias_walk known.aliases name text) (λ aliases. let pair : List TypedName × List TypedName = (aliases, met) in Ok pair)) _ a.from a.was in
       let c = ran (alias_walk known.aliases name text) _ b.from b.was in
       let found = alias_holds known.aliases k.aliases name text c.from c.was in
@@ -266,10 +250,10 @@ module _ (entries : List Entry) (valued : Every IsValued entries) (witnesses : L
         params = k.params;
       } in
       alias_then known name text span found.0 more met after next found.1
-      (items_good (with_alias known name found.0) sound more met after next (ap (λ (p : Known × List TypedName). items_walk entries p.0 more p.1) from_is ∙ a.is))
+      (items_good (with_alias known name found.0) sound more met after next (ap (λ (p : Known × List TypedName). items_walk entries edition p.0 more p.1) from_is ∙ a.is))
   items_good known k (items.Function name params text body span ∷ more) met after next h =
-      let a = ran (item_walk entries known (items.Function name params text body span) met) _ (next, after) h in
-      let b = ran (function_walk entries known name params text body met) _ a.from a.was in
+      let a = ran (item_walk entries edition known (items.Function name params text body span) met) _ (next, after) h in
+      let b = ran (function_walk entries edition known name params text body met) _ a.from a.was in
       let good = function_good known k name params text body met b.from.1 b.from.0 b.was in
       let from_is : ◌≡◌ {A = Known × List TypedName} (with_function known b.from.0, b.from.1) a.from = ok_same b.is in
       let sound : KnownSound (with_function known b.from.0) = record {
@@ -277,7 +261,7 @@ module _ (entries : List Entry) (valued : Every IsValued entries) (witnesses : L
         params = every_join (λ (g : TypedFunction). AreSound g.params) known.functions (b.from.0 ∷ []) k.params (good.head.params_are.sounds, tt);
       } in
       function_then known k name params text body span more met b.from.1 after b.from.0 next good
-      (items_good (with_function known b.from.0) sound more b.from.1 after next (ap (λ (p : Known × List TypedName). items_walk entries p.0 more p.1) from_is ∙ a.is))
+      (items_good (with_function known b.from.0) sound more b.from.1 after next (ap (λ (p : Known × List TypedName). items_walk entries edition p.0 more p.1) from_is ∙ a.is))
 
 -- Whole programs.
 
@@ -288,36 +272,36 @@ record ProgramHolds (entries : List Entry) (source : List Item) (program : Check
   typed : ProgramTyped program
   erased : ItemsErased entries [] program.functions source
 
-program_holds : (source : List Item) (asked : List ℕ) (entries : List Entry) (end : ℕ) (functions : List TypedFunction) (met : List TypedName) → Every IsValued entries →
-    program_walk source asked entries end [] ≡ Ok (functions, met) → ProgramHolds entries source (record { functions = functions; witnesses = met })
-program_holds source asked entries end functions met valued h =
-    let a = ran (items_walk entries nothing_known source []) _ (functions, met) h in
+program_holds : (source : List Item) (asked : List ℕ) (entries : List Entry) (edition end : ℕ) (functions : List TypedFunction) (met : List TypedName) → Every IsValued entries →
+    program_walk source asked entries edition end [] ≡ Ok (functions, met) → ProgramHolds entries source (record { functions = functions; witnesses = listed_witnesses edition met; edition = edition })
+program_holds source asked entries edition end functions met valued h =
+    let a = ran (items_walk entries edition nothing_known source []) _ (functions, met) h in
     let b = ran (walks.needs (has_function a.from.0.functions asked) K20 (record { start = end; end = end }) a.from.1) _ (functions, met) a.is in
     let c = ran (needs (has_function a.from.0.functions asked) K20 (record { start = end; end = end })) _ b.from b.was in
     let found_is : ◌≡◌ {A = List TypedFunction × List TypedName} (a.from.0.functions, a.from.1) (functions, met) =
     ap (λ (p : Unit {0} × List TypedName). let n : List TypedFunction × List TypedName = (a.from.0.functions, p.1) in n) (ok_same c.is) ∙ ok_same b.is in
-    let good = items_good entries valued a.from.1 nothing_known (record { aliases = tt; params = tt }) source [] a.from.1 a.from.0 a.was in
-    let once : Once a.from.1 = good.once tt in
-    let all = found_once a.from.1 once in
+    let good = items_good entries valued edition (listed_witnesses edition a.from.1) nothing_known (record { aliases = tt; params = tt }) source [] a.from.1 a.from.0 a.was in
+    let apart = good.once (record { once = λ _. tt; agree = tt }) in
+    let all = listed_agree edition a.from.1 a.from.1 apart.agree in
     let adds = good.adds all in
-    subst (λ (p : List TypedFunction × List TypedName). ProgramHolds entries source (record { functions = p.0; witnesses = p.1 })) found_is (record {
-      typed = record { functions = good.typed all no_function; once = once };
+    subst (λ (p : List TypedFunction × List TypedName). ProgramHolds entries source (record { functions = p.0; witnesses = listed_witnesses edition p.1; edition = edition })) found_is (record {
+      typed = record { functions = good.typed all no_function; once = listed_once edition a.from.1 apart };
       erased = subst (λ (fs : List TypedFunction). ItemsErased entries [] fs source) (sym adds.is) adds.erased;
     })
 
-checked_holds : (source : List Item) (asked : List ℕ) (entries : List Entry) (end : ℕ) (program : Checked) → AreValued entries → checked source asked entries end ≡ Ok program → ProgramHolds entries source program
+checked_holds : (source : List Item) (asked : List ℕ) (entries : List Entry) (edition end : ℕ) (program : Checked) → AreValued entries → checked source asked entries edition end ≡ Ok program → ProgramHolds entries source program
 unfolding checked
-checked_holds source asked entries end program valued h = walked (program_walk source asked entries end []) refl h
+checked_holds source asked entries edition end program valued h = walked (program_walk source asked entries edition end []) refl h
   where
-    walked : (w : Result (List TypedFunction × List TypedName) Broken) → program_walk source asked entries end [] ≡ w → checked_of w ≡ Ok program → ProgramHolds entries source program
+    walked : (w : Result (List TypedFunction × List TypedName) Broken) → program_walk source asked entries edition end [] ≡ w → checked_of edition w ≡ Ok program → ProgramHolds entries source program
     walked (Err broken) is e = absurd (cc)
-    walked (Ok found) is e = subst (ProgramHolds entries source) (ok_same e) (program_holds source asked entries end found.0 found.1 (every_of IsValued entries valued) is)
+    walked (Ok found) is e = subst (ProgramHolds entries source) (ok_same e) (program_holds source asked entries edition end found.0 found.1 (every_of IsValued entries valued) is)
 
 pub answered_typed : AnsweredIsTyped
-answered_typed source asked entries end program valued h = (checked_holds source asked entries end program valued h).typed
+answered_typed source asked entries edition end program valued h = (checked_holds source asked entries edition end program valued h).typed
 
 pub answered_erased : AnsweredIsErased
-answered_erased source asked entries end program valued h = (checked_holds source asked entries end program valued h).erased
+answered_erased source asked entries edition end program valued h = (checked_holds source asked entries edition end program valued h).erased
 
 pub unbroken_typed : (program : Checked) → BreaksNothing program → ProgramTyped program
-unbroken_typed program h = answered_typed h.program h.asked h.entries h.end program h.valued h.is
+unbroken_typed program h = answered_typed h.program h.asked h.entries program.edition h.end program h.valued h.is

@@ -1,9 +1,10 @@
 -- What holds of all that a walk gives.
-use Rattle.std.proofs.Common.{◌≡◌, Bool, true, false, List, Option, Some, None, Result, Ok, Err, refl, sym, ap, subst, IsTrue}
+use Rattle.std.proofs.Common.{◌≡◌, ℕ, nat_eq, Bool, true, false, List, Option, Some, None, Result, Ok, Err, refl, sym, ap, subst, IsTrue}
 use Rattle.hl_syntax.specs.declared.kinds.TypedName.{TypedName}
 use Rattle.hl_syntax.specs.declared.rules.Rule.{Rule}
 use Rattle.hl_syntax.specs.declared.token.Span.{Span}
 use Rattle.simplicityhl.specs.Written.{Broken, then_walk}
+use Rattle.hl_rules.specs.Places.{Context, variable_type}
 use Rattle.hl_rules.specs.Steps as steps
 use Rattle.hl_rules.specs.Steps.{Step}
 use Rattle.hl_rules.specs.Walks.{Walk}
@@ -31,15 +32,20 @@ pub wants_ok : {A : Type 0} (o : Option A) (rule : Rule) (span : Span) (x : A) �
 wants_ok (Some y) rule span x h = ap Some (ok_same h)
 wants_ok None rule span x h = absurd (cc)
 
-module _ (in_main : Bool) (P : TypedName → Type 0) where
+-- witnesses that were met: each is of the type that its name has among them, and in an edition other than 2 none is named twice
+pub record Apart (edition : ℕ) (met : List TypedName) : Type 0 where
+  pub once : nat_eq edition 2 ≡ false → Once met
+  pub agree : Every (λ (n : TypedName). variable_type met n.name ≡ Some n.kind) met
+
+module _ (c : Context) (P : TypedName → Type 0) where
   abbrev pub Given : List TypedName → Type 0
-  Given met = IsTrue in_main → Every P met
+  Given met = IsTrue c.in_main → Every P met
 
   -- of all that the walk gives this holds, where the witnesses of `main` that it has met have values of their types; it meets none
-  -- of a name a second time
+  -- that may not stand
   pub record Good {A : Type 0} (w : Walk A) (Q : A → Type 0) : Type 0 where
     pub kept : (met after : List TypedName) (x : A) → w met ≡ Ok (x, after) → Every P after → Every P met
-    pub once : (met after : List TypedName) (x : A) → w met ≡ Ok (x, after) → Once met → Once after
+    pub once : (met after : List TypedName) (x : A) → w met ≡ Ok (x, after) → Apart c.edition met → Apart c.edition after
     pub holds : (met after : List TypedName) (x : A) → w met ≡ Ok (x, after) → Given after → Q x
 
   pub then_good : {A B : Type 0} {p : Walk A} {q : A → Walk B} {Q : A → Type 0} {R : B → Type 0} → Good p Q → ((x : A) → Good (q x) (λ y. Q x → R y)) → Good (λ met. then_walk (p met) (λ found. q found.0 found.1)) R
@@ -71,7 +77,7 @@ module _ (in_main : Bool) (P : TypedName → Type 0) where
   pub done_good : {A : Type 0} {x : A} {R : A → Type 0} → R x → Good (λ met. Ok (x, met)) R
   done_good {x = x} {R = R} h = record {
     kept = λ met after y e v. subst (Every P) (sym (ap (λ p. p.1) (ok_same e))) v;
-    once = λ met after y e v. subst Once (ap (λ p. p.1) (ok_same e)) v;
+    once = λ met after y e v. subst (Apart c.edition) (ap (λ p. p.1) (ok_same e)) v;
     holds = λ met after y e v. subst R (ap (λ p. p.0) (ok_same e)) h;
   }
 

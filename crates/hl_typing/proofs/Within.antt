@@ -117,21 +117,21 @@ module _ (s : Setting) where
   some_let (st ∷ before) after pattern text e stands scope met r h =
       let f = first_ran st (before ++ statements.Let pattern text e stands ∷ after) scope met r h in some_let before after pattern text e stands f.first.0.1 f.first.1 f.left f.runs
 
-  module _ (h : Here) (whole : List Statement) (last : Option Expr) (span : Span) (at : Occurs s.program (place s h) (exprs.Block whole last) span) where
+  module _ (h : Here s.program) (whole : List Statement) (last : Option Expr) (span : Span) (at : Occurs s.program (place s h) (exprs.Block whole last) span) where
     -- after statements with the scope that they leave
     record LeavesRan (before : List Statement) (scope : Scope) (rest : List Statement) (r : Block) : Type 0 where
       met : List TypedName
-      named : names_of met ≡ h.before ++ flat_map statement_names before
+      named : Met s.program (h.before ++ flat_map statement_names before) met
       left : Block
       runs : statements_walk (walks rest) scope met ≡ Ok left
       scope_is : left.0.1 ≡ r.0.1
       met_is : left.1 ≡ r.1
 
     after_first : (before : List Statement) (st : Statement) (rest : List Statement) (scope next : Scope) (r : Block) (l : LeavesRan before scope (st ∷ rest) r) (f : FirstRan st rest scope l.met l.left) → f.first.0.1 ≡ next →
-        names_of f.first.1 ≡ (h.before ++ flat_map statement_names before) ++ statement_names st → LeavesRan (before ++ st ∷ []) next rest r
+        Met s.program ((h.before ++ flat_map statement_names before) ++ statement_names st) f.first.1 → LeavesRan (before ++ st ∷ []) next rest r
     after_first before st rest scope next r l f next_is named = record {
       met = f.first.1;
-      named = named ∙ flat_more statement_names before st h.before;
+      named = named ⊙ flat_more statement_names before st h.before;
       left = f.left;
       runs = subst (λ (k : Scope). statements_walk (walks rest) k f.first.1 ≡ Ok f.left) next_is f.runs;
       scope_is = f.scope_is ∙ l.scope_is;
@@ -140,7 +140,7 @@ module _ (s : Setting) where
 
     leaves_ran : (before : List Statement) (scope : Scope) → Leaves s.aliases h.scope before scope → (rest : List Statement) → whole ≡ before ++ rest → (r : Block) → statements_walk (walks whole) h.scope h.met ≡ Ok r → LeavesRan before scope rest r
     leaves_ran _ _ no_statement rest is r w =
-        record { met = h.met; named = h.named ∙ sym (append-nil h.before); left = r; runs = subst (λ (ss : List Statement). statements_walk (walks ss) h.scope h.met ≡ Ok r) is w; scope_is = refl; met_is = refl }
+        record { met = h.met; named = h.named ⊙ sym (append-nil h.before); left = r; runs = subst (λ (ss : List Statement). statements_walk (walks ss) h.scope h.met ≡ Ok r) is w; scope_is = refl; met_is = refl }
     leaves_ran _ _ (after_let before scope pattern text e stands kind bound leaves written binds) rest is r w =
         let st = statements.Let pattern text e stands in
         let is' : whole ≡ before ++ st ∷ rest = is ∙ append_assoc before (st ∷ []) rest in
@@ -149,49 +149,49 @@ module _ (s : Setting) where
         let q = let_ran pattern text e stands scope l.met f.first f.is in
         let kind_is : q.kind ≡ kind = ok_same (sym q.written ∙ written) in
         let bound_is : q.bound ≡ bound = ok_same (sym q.binds ∙ ap (λ (k : HlType). pattern_walk pattern k []) kind_is ∙ binds) in
-        let here : Here = record { scope = scope; expected = kind; alone = false; before = h.before ++ flat_map statement_names before; met = l.met; named = l.named } in
+        let here : Here s.program = record { scope = scope; expected = kind; alone = false; before = h.before ++ flat_map statement_names before; met = l.met; named = l.named } in
         let at' = subst (λ (ss : List Statement). Occurs s.program (place s h) (exprs.Block ss last) span) is' at in
         let named = meets s e here (occurs.value (place s h) before rest pattern text e stands last span scope kind at' leaves written) q.value (subst (λ (k : HlType). Ran s e scope k K6 l.met q.value) kind_is q.runs) in
         after_first before st rest scope (bound ++ scope) r l f (sym q.scope_is ∙ ap (λ (b : Scope). b ++ scope) bound_is)
-        (ap names_of (sym q.met_is) ∙ named ∙ ap (λ (ns : Names). (h.before ++ flat_map statement_names before) ++ ns) (sym (let_names pattern text e stands)))
+        (subst (Met s.program ((h.before ++ flat_map statement_names before) ++ expr_names e)) q.met_is named ⊙ ap (λ (ns : Names). (h.before ++ flat_map statement_names before) ++ ns) (sym (let_names pattern text e stands)))
     leaves_ran _ _ (after_plain before scope e leaves) rest is r w =
         let st = statements.Plain e in
         let is' : whole ≡ before ++ st ∷ rest = is ∙ append_assoc before (st ∷ []) rest in
         let l = leaves_ran before scope leaves (st ∷ rest) is' r w in
         let f = first_ran st rest scope l.met l.left l.runs in
         let q = plain_ran e scope l.met f.first f.is in
-        let here : Here = record { scope = scope; expected = unit_type; alone = true; before = h.before ++ flat_map statement_names before; met = l.met; named = l.named } in
+        let here : Here s.program = record { scope = scope; expected = unit_type; alone = true; before = h.before ++ flat_map statement_names before; met = l.met; named = l.named } in
         let at' = subst (λ (ss : List Statement). Occurs s.program (place s h) (exprs.Block ss last) span) is' at in
         let named = meets s e here (occurs.statement (place s h) before rest e last span scope at' leaves) q.value q.runs in
         after_first before st rest scope scope r l f (sym q.scope_is)
-        (ap names_of (sym q.met_is) ∙ named ∙ ap (λ (ns : Names). (h.before ++ flat_map statement_names before) ++ ns) (sym (plain_names e)))
+        (subst (Met s.program ((h.before ++ flat_map statement_names before) ++ expr_names e)) q.met_is named ⊙ ap (λ (ns : Names). (h.before ++ flat_map statement_names before) ++ ns) (sym (plain_names e)))
 
   -- the statements of a block, and its last expression
-  record BlockRan (h : Here) (whole : List Statement) : Type 0 where
+  record BlockRan (h : Here s.program) (whole : List Statement) : Type 0 where
     all : Block
     runs : statements_walk (walks whole) h.scope h.met ≡ Ok all
 
-  record LastRan (h : Here) (whole : List Statement) (e : Expr) : Type 0 where
+  record LastRan (h : Here s.program) (whole : List Statement) (e : Expr) : Type 0 where
     block : BlockRan h whole
     value : TypedExpr × List TypedName
     ends : Ran s e block.all.0.1 h.expected K6 block.all.1 value
 
-  abbrev pub Answers : ExprForm → Span → Here → TypedForm × List TypedName → Type 0
+  abbrev pub Answers : ExprForm → Span → Here s.program → TypedForm × List TypedName → Type 0
   Answers form span h r = form_walk (context s) form span h.scope h.expected (rule_of h.alone) h.met ≡ Ok r
 
-  last_ran : (h : Here) (whole : List Statement) (e : Expr) (span : Span) (r : TypedForm × List TypedName) → Answers (exprs.Block whole (Some e)) span h r → LastRan h whole e
+  last_ran : (h : Here s.program) (whole : List Statement) (e : Expr) (span : Span) (r : TypedForm × List TypedName) → Answers (exprs.Block whole (Some e)) span h r → LastRan h whole e
   last_ran h whole e span r w =
       let a = ran (statements_walk (walks whole) h.scope h.met) _ r (opened s (ExprForm-F.Block whole (Some e)) (exprs.Block whole (Some e)) (exprs.rolls-Block whole (Some e)) span h r w) in
       let b = ran (last_walk (Some (expr_walk (context s) e)) span a.from.0.1 h.expected (rule_of h.alone) a.from.1) _ r a.is in
       let c = ran (expr_walk (context s) e a.from.0.1 h.expected K6 a.from.1) _ b.from b.was in
       record { block = record { all = a.from; runs = a.was }; value = c.from; ends = c.was }
 
-  pub block_ran : (h : Here) (whole : List Statement) (last : Option Expr) (span : Span) (r : TypedForm × List TypedName) → Answers (exprs.Block whole last) span h r → (all : Block) × (statements_walk (walks whole) h.scope h.met ≡ Ok all)
+  pub block_ran : (h : Here s.program) (whole : List Statement) (last : Option Expr) (span : Span) (r : TypedForm × List TypedName) → Answers (exprs.Block whole last) span h r → (all : Block) × (statements_walk (walks whole) h.scope h.met ≡ Ok all)
   block_ran h whole (Some e) span r w = let l = last_ran h whole e span r w in (l.block.all, l.block.runs)
   block_ran h whole None span r w =
       let a = ran (statements_walk (walks whole) h.scope h.met) _ r (opened s (ExprForm-F.Block whole None) (exprs.Block whole None) (exprs.rolls-Block whole None) span h r w) in (a.from, a.was)
 
-  pub value_runs : (h : Here) (before after : List Statement) (pattern : Pattern) (text : TypeText) (e : Expr) (stands : Span) (last : Option Expr) (span : Span) (scope : Scope) (kind : HlType) (r : TypedForm × List TypedName) →
+  pub value_runs : (h : Here s.program) (before after : List Statement) (pattern : Pattern) (text : TypeText) (e : Expr) (stands : Span) (last : Option Expr) (span : Span) (scope : Scope) (kind : HlType) (r : TypedForm × List TypedName) →
       Occurs s.program (place s h) (exprs.Block (before ++ statements.Let pattern text e stands ∷ after) last) span → Leaves s.aliases h.scope before scope → walk s.aliases text ≡ Ok kind →
       Answers (exprs.Block (before ++ statements.Let pattern text e stands ∷ after) last) span h r → RunsHere s (inside (with_scope (place s h) scope) kind (flat_map statement_names before)) e.form e.span
   value_runs h before after pattern text e stands last span scope kind r at leaves written w =
@@ -203,7 +203,7 @@ module _ (s : Setting) where
       let kind_is : q.kind ≡ kind = ok_same (sym q.written ∙ written) in
       runs_at s e (record { scope = scope; expected = kind; alone = false; before = h.before ++ flat_map statement_names before; met = l.met; named = l.named }) q.value (subst (λ (k : HlType). Ran s e scope k K6 l.met q.value) kind_is q.runs)
 
-  pub statement_runs : (h : Here) (before after : List Statement) (e : Expr) (last : Option Expr) (span : Span) (scope : Scope) (r : TypedForm × List TypedName) →
+  pub statement_runs : (h : Here s.program) (before after : List Statement) (e : Expr) (last : Option Expr) (span : Span) (scope : Scope) (r : TypedForm × List TypedName) →
       Occurs s.program (place s h) (exprs.Block (before ++ statements.Plain e ∷ after) last) span → Leaves s.aliases h.scope before scope →
       Answers (exprs.Block (before ++ statements.Plain e ∷ after) last) span h r → RunsHere s (alone (with_scope (place s h) scope) (flat_map statement_names before)) e.form e.span
   statement_runs h before after e last span scope r at leaves w =
@@ -214,7 +214,7 @@ module _ (s : Setting) where
       let q = plain_ran e scope l.met f.first f.is in
       runs_at s e (record { scope = scope; expected = unit_type; alone = true; before = h.before ++ flat_map statement_names before; met = l.met; named = l.named }) q.value q.runs
 
-  pub last_runs : (h : Here) (before : List Statement) (e : Expr) (span : Span) (scope : Scope) (r : TypedForm × List TypedName) → Occurs s.program (place s h) (exprs.Block before (Some e)) span → Leaves s.aliases h.scope before scope →
+  pub last_runs : (h : Here s.program) (before : List Statement) (e : Expr) (span : Span) (scope : Scope) (r : TypedForm × List TypedName) → Occurs s.program (place s h) (exprs.Block before (Some e)) span → Leaves s.aliases h.scope before scope →
       Answers (exprs.Block before (Some e)) span h r → RunsHere s (inside (with_scope (place s h) scope) h.expected (flat_map statement_names before)) e.form e.span
   last_runs h before e span scope r at leaves w =
       let b = last_ran h before e span r w in
@@ -236,7 +236,7 @@ module _ (s : Setting) where
   arm_named : (arm : Arm) → arm_names arm ≡ expr_names arm.body
   arm_named arm = fold_out-Arm Names Names Names Names names_step statement_names_step (λ arm. arm.body) (λ e. e.form) arm
 
-  pub record MatchRan (e : Expr) (one two : Arm) (h : Here) : Type 0 where
+  pub record MatchRan (e : Expr) (one two : Arm) (h : Here s.program) : Type 0 where
     pub are : are_sides one.side two.side ≡ true
     pub first : TypedSide × Scope
     pub first_is : side_walk s.aliases one.side ≡ Ok first
@@ -249,7 +249,7 @@ module _ (s : Setting) where
     pub other : TypedExpr × List TypedName
     pub other_is : Ran s two.body (second.1 ++ h.scope) h.expected K6 body.1 other
 
-  pub match_ran : (e : Expr) (one two : Arm) (h : Here) (span : Span) (r : TypedForm × List TypedName) → Answers (exprs.Match e (one ∷ two ∷ [])) span h r → MatchRan e one two h
+  pub match_ran : (e : Expr) (one two : Arm) (h : Here s.program) (span : Span) (r : TypedForm × List TypedName) → Answers (exprs.Match e (one ∷ two ∷ [])) span h r → MatchRan e one two h
   match_ran e one two h span r w =
       let opens : match_walk s.aliases (expr_walk (context s) e) (arm_walk s one) (arm_walk s two) span h.scope h.expected (rule_of h.alone) h.met ≡ Ok r =
       opened s (ExprForm-F.Match e (one ∷ two ∷ [])) (exprs.Match e (one ∷ two ∷ [])) (exprs.rolls-Match e (one ∷ two ∷ [])) span h r w in
@@ -265,7 +265,7 @@ module _ (s : Setting) where
       record { are = a.0; first = b.0; first_is = b.1; second = c.0; second_is = c.1; value = d.from; value_is = d.was; body = f.from; body_is = f.was; other = g.from; other_is = g.was }
 
   -- a match has two arms
-  pub two_arms : (e : Expr) (arms : List Arm) (h : Here) (span : Span) (r : TypedForm × List TypedName) → Answers (exprs.Match e arms) span h r → (one : Arm) × (two : Arm) × (arms ≡ one ∷ two ∷ [])
+  pub two_arms : (e : Expr) (arms : List Arm) (h : Here s.program) (span : Span) (r : TypedForm × List TypedName) → Answers (exprs.Match e arms) span h r → (one : Arm) × (two : Arm) × (arms ≡ one ∷ two ∷ [])
   two_arms e [] h span r w = let no = opened s (ExprForm-F.Match e []) (exprs.Match e []) (exprs.rolls-Match e []) span h r w in absurd (cc)
   two_arms e (one ∷ []) h span r w = let no = opened s (ExprForm-F.Match e (one ∷ [])) (exprs.Match e (one ∷ [])) (exprs.rolls-Match e (one ∷ [])) span h r w in absurd (cc)
   two_arms e (one ∷ two ∷ []) h span r w = (one, two, refl)
@@ -275,22 +275,22 @@ module _ (s : Setting) where
   side_one : (x y : TypedSide × Scope) → ◌≡◌ {A = Result (TypedSide × Scope) Broken} (Ok x) (Ok y) → x ≡ y
   side_one x y h = ok_same h
 
-  scrutinee_named : (h : Here) (e : Expr) (one two : Arm) (span : Span) → Occurs s.program (place s h) (exprs.Match e (one ∷ two ∷ [])) span → (m : MatchRan e one two h) → names_of m.value.1 ≡ h.before ++ expr_names e
+  scrutinee_named : (h : Here s.program) (e : Expr) (one two : Arm) (span : Span) → Occurs s.program (place s h) (exprs.Match e (one ∷ two ∷ [])) span → (m : MatchRan e one two h) → names_of m.value.1 ≡ h.before ++ expr_names e
   scrutinee_named h e one two span at m =
-      meets s e (record { scope = h.scope; expected = matched_type m.first.0 m.second.0; alone = false; before = h.before ++ []; met = h.met; named = h.named ∙ sym (append-nil h.before) })
+      meets s e (record { scope = h.scope; expected = matched_type m.first.0 m.second.0; alone = false; before = h.before ++ []; met = h.met; named = h.named ⊙ sym (append-nil h.before) })
       (occurs.scrutinee (place s h) e one two span m.first.0 m.second.0 m.first.1 m.second.1 at m.are m.first_is m.second_is) m.value m.value_is ∙ ap (λ (ns : Names). ns ++ expr_names e) (append-nil h.before)
 
-  pub scrutinee_runs : (h : Here) (e : Expr) (one two : Arm) (span : Span) (first second : TypedSide) (first_bound second_bound : Scope) (r : TypedForm × List TypedName) → side_walk s.aliases one.side ≡ Ok (first, first_bound) →
+  pub scrutinee_runs : (h : Here s.program) (e : Expr) (one two : Arm) (span : Span) (first second : TypedSide) (first_bound second_bound : Scope) (r : TypedForm × List TypedName) → side_walk s.aliases one.side ≡ Ok (first, first_bound) →
       side_walk s.aliases two.side ≡ Ok (second, second_bound) → Answers (exprs.Match e (one ∷ two ∷ [])) span h r → RunsHere s (inside (place s h) (matched_type first second) []) e.form e.span
   scrutinee_runs h e one two span first second first_bound second_bound r first_is second_is w =
       let m = match_ran e one two h span r w in
       let one_is : m.first ≡ (first, first_bound) = side_one m.first (first, first_bound) (sym m.first_is ∙ first_is) in
       let two_is : m.second ≡ (second, second_bound) = side_one m.second (second, second_bound) (sym m.second_is ∙ second_is) in
-      runs_at s e (record { scope = h.scope; expected = matched_type first second; alone = false; before = h.before ++ []; met = h.met; named = h.named ∙ sym (append-nil h.before) }) m.value
+      runs_at s e (record { scope = h.scope; expected = matched_type first second; alone = false; before = h.before ++ []; met = h.met; named = h.named ⊙ sym (append-nil h.before) }) m.value
       (subst (λ (x : TypedSide × Scope). Ran s e h.scope (matched_type first x.0) K6 h.met m.value) two_is (subst (λ (x : TypedSide × Scope). Ran s e h.scope (matched_type x.0 m.second.0) K6 h.met m.value) one_is m.value_is))
 
   -- the arm after others
-  pub arm_runs : (h : Here) (e : Expr) (before after : List Arm) (one : Arm) (span : Span) (side : TypedSide) (bound : Scope) (r : TypedForm × List TypedName) → Occurs s.program (place s h) (exprs.Match e (before ++ one ∷ after)) span →
+  pub arm_runs : (h : Here s.program) (e : Expr) (before after : List Arm) (one : Arm) (span : Span) (side : TypedSide) (bound : Scope) (r : TypedForm × List TypedName) → Occurs s.program (place s h) (exprs.Match e (before ++ one ∷ after)) span →
       side_walk s.aliases one.side ≡ Ok (side, bound) → Answers (exprs.Match e (before ++ one ∷ after)) span h r →
       RunsHere s (inside (with_scope (place s h) (bound ++ h.scope)) h.expected (expr_names e ++ flat_map arm_names before)) one.body.form one.body.span
   arm_runs h e [] [] one span side bound r at is w = let t = two_arms e (one ∷ []) h span r w in absurd (cc)
