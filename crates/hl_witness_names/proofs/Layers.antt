@@ -1,5 +1,5 @@
 -- The names in a tree by its outermost layer.
-use Rattle.std.proofs.Common.{◌≡◌, sym, ap, ◌∙◌}
+use Rattle.std.proofs.Common.{◌≡◌, [], ◌∷◌, ◌++◌, sym, ap, ◌∙◌}
 use Rattle.hl_data.specs.declared.typed.TypedArm.{TypedArm}
 use Rattle.hl_data.specs.declared.typed.TypedExpr.{TypedExpr}
 use Rattle.hl_data.specs.declared.typed.TypedForm.{TypedForm, roll-TypedForm}
@@ -68,9 +68,19 @@ module _ (order : Order) where
   unfolding names_in_form names_in
   typed_expr e = fold_out-TypedExpr Names Names ArmNames Names (form_step order) (statement_step order) (arm_step order) (expr_step order) e
 
-  pub typed_arm : (arm : TypedArm) → names_in_arm order arm ≡ record { side = arm.side; names = names_in order arm.body }
+  -- an arm by its side and the names in its body
+  abbrev pub arm_of : TypedArm → ArmNames
+  arm_of arm = record { side = arm.side; names = names_in order arm.body }
+
+  pub typed_arm : (arm : TypedArm) → names_in_arm order arm ≡ arm_of arm
   unfolding names_in_arm names_in
   typed_arm arm = fold_out-TypedArm Names Names ArmNames Names (form_step order) (statement_step order) (arm_step order) (expr_step order) arm
+
+  pub typed_arms : (e : TypedExpr) (one two : TypedArm) →
+      typed_layer (TypedForm-F.Match e (one ∷ two ∷ [])) ≡ names_in order e ++ order (arm_of one ∷ arm_of two ∷ [])
+  typed_arms e one two =
+      ap (λ a. names_in order e ++ order (a ∷ names_in_arm order two ∷ [])) (typed_arm one)
+      ∙ ap (λ a. names_in order e ++ order (arm_of one ∷ a ∷ [])) (typed_arm two)
 
   pub typed_let : (p : Pattern) (k : HlType) (e : TypedExpr) → names_in_statement order (typed_statements.Let p k e) ≡ names_in order e
   unfolding names_in_statement names_in

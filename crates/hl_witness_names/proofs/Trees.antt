@@ -19,7 +19,7 @@ use Rattle.hl_rules.specs.Witnesses.{Names, joined, if_any, form_names, statemen
 use Rattle.hl_typing.specs.Erased as erased
 use Rattle.hl_typing.specs.Erased.{Erased, Paired, FormOf, ExprsOf, StatementOf, StatementsOf, LastOf, ArmOf}
 use Rattle.hl_typing.specs.Names.{ArmNames, Order, in_text, in_term, goes_first, names_in_form, names_in_statement, names_in_arm, names_in}
-use Rattle.hl_witness_names.proofs.Layers.{Layer, TypedLayer, source_layer, source_form, source_expr, source_arm, source_let, source_plain, typed_layer, typed_form, typed_expr, typed_arm, typed_let, typed_plain}
+use Rattle.hl_witness_names.proofs.Layers.{Layer, TypedLayer, source_layer, source_form, source_expr, source_arm, source_let, source_plain, typed_layer, typed_form, typed_expr, typed_arms, typed_let, typed_plain}
 
 -- the names in a term, those in the typed tree's text, and those of its source
 pub record Same (term text source : Names) : Type 0 where
@@ -55,10 +55,6 @@ arms_same false a b c d e f h k =
 
 abbrev FormSame : TypedForm → ExprForm → Type 0
 FormSame form source = Same (names_in_form in_term form) (names_in_form in_text form) (form_names source)
-
--- an arm by its parts
-abbrev arm_of : Order → TypedArm → ArmNames
-arm_of order arm = record { side = arm.side; names = names_in order arm.body }
 
 abbrev pub ExprSame : TypedExpr → Expr → Type 0
 ExprSame e source = Same (names_in in_term e) (names_in in_text e) (expr_names source)
@@ -98,17 +94,10 @@ block_same ss (Some e) sources (Some source) h k =
 match_same : (e : TypedExpr) (one two : TypedArm) (source : Expr) (first second : Arm) → ExprSame e source →
     Claim (ArmOf one first) → Claim (ArmOf two second) → FormSame (typed.Match e (one ∷ two ∷ [])) (exprs.Match source (first ∷ second ∷ []))
 match_same e one two source first second h k l =
-    let arms : (order : Order) → (a b : ArmNames) → a ≡ names_in_arm order one → b ≡ names_in_arm order two →
-    typed_layer order (TypedForm-F.Match e (one ∷ two ∷ [])) ≡ names_in order e ++ order (a ∷ b ∷ []) =
-    λ order a b p q. ap (λ c. names_in order e ++ order (c ∷ names_in_arm order two ∷ [])) (sym p)
-    ∙ ap (λ c. names_in order e ++ order (a ∷ c ∷ [])) (sym q) in
-    let at_arms : (order : Order) →
-    typed_layer order (TypedForm-F.Match e (one ∷ two ∷ [])) ≡ names_in order e ++ order (arm_of order one ∷ arm_of order two ∷ []) =
-    λ order. arms order (arm_of order one) (arm_of order two) (sym (typed_arm order one)) (sym (typed_arm order two)) in
     let same = arms_same (goes_first one.side) _ _ _ _ _ _ k l in
     made (TypedForm-F.Match e (one ∷ two ∷ [])) _ (typed.rolls-Match e (one ∷ two ∷ [])) (ExprForm-F.Match source (first ∷ second ∷ [])) _
     (exprs.rolls-Match source (first ∷ second ∷ []))
-    (moved (at_arms in_term) (at_arms in_text) refl (both h (plus_nothing _ _ _ _ same)))
+    (moved (typed_arms in_term e one two) (typed_arms in_text e one two) refl (both h (plus_nothing _ _ _ _ same)))
 
 pub same : (aliases : List TypedName) (entries : List Entry) (p : Paired) → Erased aliases entries p → Claim p
 same aliases entries _ erased.no_more = nothing
