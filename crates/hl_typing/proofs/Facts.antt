@@ -1,5 +1,5 @@
 -- Where the walk of a form answers, the form breaks no rule of its own.
-use Rattle.std.proofs.Common.{◌≡◌, ◌≢◌, ◌<◌, ◌≤◌, ◌^◌, ℕ, Bool, true, false, not, nat_lt, nat_eq, eqb-true, ltb-true, List, length, map, Option, Some, None, Result, Ok, Err, refl, sym, ap, ◌∙◌, subst, IsTrue, arith}
+use Rattle.std.proofs.Common.{◌≡◌, ◌≢◌, ◌<◌, ◌≤◌, ◌^◌, ℕ, Bool, true, false, not, nat_lt, nat_eq, eqb-true, ltb-true, List, [], ◌∷◌, ◌++◌, length, map, Option, Some, None, Result, Ok, Err, refl, sym, ap, ◌∙◌, subst, IsTrue, arith}
 use Rattle.std.specs.Prelude.{if◌then◌else◌}
 use Rattle.std.proofs.lemmas.List.{length-map}
 use Rattle.hl_data.specs.declared.typed.TypedForm.{TypedForm}
@@ -28,17 +28,19 @@ use Rattle.simplicityhl.specs.Written.{Broken, breaks_limit, walk, counted, then
 use Rattle.hl_meaning.specs.Literals.{literal_value}
 use Rattle.hl_rules.specs.Before.{Signature, signature_named}
 use Rattle.hl_rules.specs.Breaks.{Calls, by_call, by_fold, by_array_fold, by_for_while, HasType, no_last, asserted, truth, falsehood, tested, variable, from_jet, from_function, Misfits, other_type, no_number, no_tuple, no_array, no_list, no_option_some, no_option_none, no_either_left, no_either_right, Counts, fold_counts, array_fold_counts, IsShapeless, no_fold, no_array_fold, no_while, are_arms}
-use Rattle.hl_rules.specs.Exprs.{expr_walk, statement_walk, statements_walk, last_walk, param_types, jet_named, jet_arguments, jet_result, fold_shape, while_shape}
+use Rattle.hl_rules.specs.Exprs.{may_stand, stands_again, expr_walk, statement_walk, statements_walk, last_walk, param_types, jet_named, jet_arguments, jet_result, fold_shape, while_shape}
 use Rattle.hl_rules.specs.Occurs.{types_of}
 use Rattle.hl_rules.specs.Places.{variable_type, function_named, entry_named, has_name}
 use Rattle.hl_rules.specs.Same.{same_type, same_kind, unit_type, width_of, parts_of, array_of, list_of, option_of, either_of}
 use Rattle.hl_rules.specs.Walks.{wants}
 use Rattle.hl_rules.proofs.Here.{Setting, Here, context, place, rule_of, signature_of, signature_found}
 use Rattle.hl_rules.proofs.Names.{has_among}
+use Rattle.hl_typing.proofs.Every.{Every, every_rest}
+use Rattle.hl_typing.proofs.Listed.{no_type}
 use Rattle.hl_typing.proofs.Once.{not_true}
 use Rattle.hl_typing.proofs.Reached.{opened, known}
-use Rattle.hl_typing.proofs.Same.{kinds_equal}
-use Rattle.hl_typing.proofs.Steps.{ran}
+use Rattle.hl_typing.proofs.Same.{both_true, kinds_equal}
+use Rattle.hl_typing.proofs.Steps.{ran, ok_same}
 use Rattle.hl_typing.proofs.There.{wants_there, wants_is, needs_there, step_there, mapped_none, none_some, true_false}
 use Rattle.hl_typing.proofs.Within.{Answers, two_arms, match_ran}
 
@@ -61,7 +63,7 @@ count_is mark n e = count_value (is_count (decimal_value mark.text)) (decimal_va
 pub not_both : (b : Bool) → b ≡ true → IsTrue (not b) → ⊥
 not_both b h k = true_false b h (not_true b k)
 
-module _ (s : Setting) (h : Here) (span : Span) (r : TypedForm × List TypedName) where
+module _ (s : Setting) (h : Here s.program) (span : Span) (r : TypedForm × List TypedName) where
   abbrev Answer : ExprForm → Type 0
   Answer form = Answers s form span h r
 
@@ -260,11 +262,23 @@ module _ (s : Setting) (h : Here) (span : Span) (r : TypedForm × List TypedName
   pub no_k16 : (name : Mark) → Answer (exprs.Witness name) → s.in_main ≡ false → ⊥
   no_k16 name w other = let a = needs_there s.in_main K16 name.span h.met _ r (opened s (ExprForm-F.Witness name) (exprs.Witness name) (exprs.rolls-Witness name) span h r w) in true_false s.in_main a.0 other
 
-  pub no_k17 : (name : Mark) → Answer (exprs.Witness name) → IsTrue (is_among h.before name.text) → ⊥
-  no_k17 name w among =
+  may_there : (name : Mark) → Answer (exprs.Witness name) → (may_stand s.edition h.met name.text h.expected ≡ true) ×
+      ◌≡◌ {A = Result (TypedForm × List TypedName) Broken} (Ok (typed.Witness name.text, h.met ++ record { name = name.text; kind = h.expected } ∷ [])) (Ok r)
+  may_there name w =
       let a = needs_there s.in_main K16 name.span h.met _ r (opened s (ExprForm-F.Witness name) (exprs.Witness name) (exprs.rolls-Witness name) span h r w) in
-      let b = needs_there (not (has_name h.met name.text)) K17 name.span h.met _ r a.1 in
-      not_both (has_name h.met name.text) (has_among h.met name.text ∙ ap (λ ns. is_among ns name.text) h.named ∙ among) b.0
+      needs_there (may_stand s.edition h.met name.text h.expected) K17 name.span h.met _ r a.1
+
+  -- in an edition other than 2 no name stands twice
+  pub no_k17 : (name : Mark) → Answer (exprs.Witness name) → s.edition ≢ 2 → IsTrue (is_among h.before name.text) → ⊥
+  no_k17 name w other among = go (variable_type h.met name.text) refl
+    where
+      go : (known : Option HlType) → variable_type h.met name.text ≡ known → ⊥
+      go None is = true_false (has_name h.met name.text) (has_among h.met name.text ∙ ap (λ ns. is_among ns name.text) h.named.named ∙ among) (no_type h.met name.text is)
+      go (Some first) is = other (eqb-true s.edition 2 (both_true (nat_eq s.edition 2) (same_type first h.expected) (ap (stands_again s.edition h.expected) (sym is) ∙ (may_there name w).0)).0)
+
+  -- a witness that is met is met at the type that is expected
+  pub met_here : (name : Mark) (P : TypedName → Type 0) → Answer (exprs.Witness name) → Every P r.1 → P (record { name = name.text; kind = h.expected })
+  met_here name P w kept = (every_rest P h.met (record { name = name.text; kind = h.expected } ∷ []) (subst (Every P) (sym (ap (λ (x : TypedForm × List TypedName). x.1) (ok_same (may_there name w).1))) kept)).0
 
   pub no_k18 : (name : Mark) → Answer (exprs.Param name) → entry_named s.entries name.text ≡ None → ⊥
   no_k18 name w none =

@@ -1,6 +1,6 @@
 -- What a walk makes of the witnesses that were met: it takes none away, so what holds of all of them after it holds of those before
 -- it; and where those before it may stand, so may those after it.
-use Rattle.std.proofs.Common.{◌≡◌, ℕ, Bool, true, false, ◌^◌, nat_eq, nat_lt, List, [], ◌∷◌, ◌++◌, length, map, Option, Some, None, Result, Ok, Err, refl, sym, ap, ◌∙◌, subst}
+use Rattle.std.proofs.Common.{◌≡◌, ℕ, Bool, true, false, ◌^◌, nat_eq, nat_lt, List, [], ◌∷◌, ◌++◌, length, map, Option, Some, None, Ok, Err, refl, sym, ap, ◌∙◌, subst}
 use Rattle.hl_syntax.specs.declared.kinds.HlType.{HlType}
 use Rattle.hl_syntax.specs.declared.kinds.HlType.TheVariants as kind
 use Rattle.hl_syntax.specs.declared.kinds.TypedName.{TypedName}
@@ -14,7 +14,7 @@ use Rattle.hl_syntax.specs.declared.tree.Param.{Param}
 use Rattle.hl_syntax.specs.declared.tree.Arm.{Arm, roll-Arm}
 use Rattle.hl_syntax.specs.declared.tree.Expr.{Expr, roll-Expr}
 use Rattle.hl_syntax.specs.declared.tree.ExprForm.{ExprForm, roll-ExprForm}
-use Rattle.hl_syntax.specs.declared.tree.ExprForm.TheFolds.{fold-ExprForm, fold-Statement, fold-Arm, fold-Expr, fold-roll-ExprForm, fold-roll-Statement, fold_out-Expr, fold_out-Arm, ind-Expr, map-ExprForm, map-Statement}
+use Rattle.hl_syntax.specs.declared.tree.ExprForm.TheFolds.{fold-Arm, fold-roll-ExprForm, fold-roll-Statement, fold_out-Expr, fold_out-Arm, ind-Expr, ind-Statement, map-ExprForm, map-Statement}
 use Rattle.hl_syntax.specs.declared.tree.ExprForm.TheOpen.{ExprForm-F, Statement-F, Expr-F}
 use Rattle.hl_syntax.specs.declared.tree.Statement.{Statement, roll-Statement}
 use Rattle.hl_syntax.specs.declared.tree.Pattern.{Pattern}
@@ -265,6 +265,14 @@ module _ (edition : ℕ) (P : TypedName → Type 0) where
     pub expr_keeps : (e : Expr) → Claim e
     expr_keeps =
         ind-Expr FormClaim StatementClaim ArmClaim Claim
+        (λ x y is. subst (λ z. FormClaim (roll-ExprForm z)) is (form_claim y))
+        (λ x y is. subst (λ z. StatementClaim (roll-Statement z)) is (statement_claim y))
+        (λ x y is. subst (λ z. ArmClaim (roll-Arm z)) is (arm_claim _ y.body.1))
+        (λ x y is. expr_claim (roll-Expr x) (subst (λ (e : Expr-F ExprForm Statement Arm Expr). FormClaim e.form) is y.form.1))
+
+    pub statement_keeps : (st : Statement) → StatementClaim st
+    statement_keeps =
+        ind-Statement FormClaim StatementClaim ArmClaim Claim
         (λ x y is. subst (λ z. FormClaim (roll-ExprForm z)) is (form_claim y))
         (λ x y is. subst (λ z. StatementClaim (roll-Statement z)) is (statement_claim y))
         (λ x y is. subst (λ z. ArmClaim (roll-Arm z)) is (arm_claim _ y.body.1))

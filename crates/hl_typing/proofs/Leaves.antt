@@ -1,5 +1,5 @@
 -- Forms without parts, or with one.
-use Rattle.std.proofs.Common.{◌≡◌, ℕ, ◌^◌, true, not, nat_lt, ltb-true, List, [], ◌∷◌, ◌++◌, bytes_eq, Some, Ok, sym, ap, ◌∙◌, subst}
+use Rattle.std.proofs.Common.{◌≡◌, ℕ, ◌^◌, true, nat_lt, ltb-true, List, [], ◌∷◌, ◌++◌, bytes_eq, Some, Ok, sym, ap, ◌∙◌, subst}
 use Rattle.std.specs.Prelude.{IsSome}
 use Rattle.hl_data.specs.declared.typed.TypedForm.TheVariants as typed
 use Rattle.hl_syntax.specs.declared.kinds.HlType.{HlType}

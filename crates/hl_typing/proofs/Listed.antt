@@ -1,5 +1,5 @@
 -- Witnesses that were met, one more of them, and the list of them by edition.
-use Rattle.std.proofs.Common.{◌≡◌, ℕ, Bool, true, false, ◌&&◌, nat_eq, cond, List, [], ◌∷◌, ◌++◌, bytes_eq, find, Option, Some, None, option_map, refl, sym, ap, ◌∙◌, subst, if◌then◌else◌}
+use Rattle.std.proofs.Common.{◌≡◌, ℕ, Bool, true, false, nat_eq, cond, List, [], ◌∷◌, ◌++◌, bytes_eq, find, Option, Some, None, option_map, refl, sym, ap, ◌∙◌, if◌then◌else◌}
 use Rattle.std.proofs.lemmas.Slice.Eq.{bytes_eq-Decides}
 use Rattle.hl_syntax.specs.declared.kinds.HlType.{HlType}
 use Rattle.hl_syntax.specs.declared.kinds.TypedName.{TypedName}
@@ -9,7 +9,7 @@ use Rattle.hl_rules.specs.Same.{same_type}
 use Rattle.hl_rules.specs.Witnesses.{first_witnesses, listed_witnesses}
 use Rattle.hl_typing.specs.Patterns.{Once}
 use Rattle.hl_typing.proofs.Every.{Every, every_join}
-use Rattle.hl_typing.proofs.Once.{once_more, other_way}
+use Rattle.hl_typing.proofs.Once.{once_more}
 use Rattle.hl_typing.proofs.Same.{same_equal, both_true}
 use Rattle.hl_typing.proofs.Steps.{Apart}
 
@@ -70,6 +70,7 @@ apart_more edition met w may a = go (stands edition met w may)
   where
     all : variable_type (met ++ w ∷ []) w.name ≡ Some w.kind → Every (λ (n : TypedName). variable_type (met ++ w ∷ []) n.name ≡ Some n.kind) (met ++ w ∷ [])
     all last = every_join (λ (n : TypedName). variable_type (met ++ w ∷ []) n.name ≡ Some n.kind) met (w ∷ []) (every_kept met w met a.agree) (last, tt)
+
     go : Stands edition met w → Apart edition (met ++ w ∷ [])
     go (fresh none) = record { once = λ first. once_more met w (a.once first) (no_type met w.name none); agree = all (new_type met w none) }
     go (again second known) = record { once = λ first. absurd (cc); agree = all (kept_type met w w.name w.kind known) }
@@ -108,6 +109,7 @@ first_apart before (w ∷ met) name h = go (has_name before w.name) refl (first_
     differs : has_name before w.name ≡ false → (b : Bool) → bytes_eq name w.name ≡ b → bytes_eq name w.name ≡ false
     differs none false other = other
     differs none true this = let wrong = sym h ∙ ap (has_name before) ((bytes_eq-Decides name w.name).0 this) ∙ none in absurd (cc)
+
     go : (b : Bool) → has_name before w.name ≡ b → has_name (first_witnesses before met) name ≡ false → has_name (first_witnesses (before ++ w ∷ []) met) name ≡ false → has_name (first_witnesses before (w ∷ met)) name ≡ false
     go true there skip take = rw there skip
     go false none skip take = rw (none, differs none (bytes_eq name w.name) refl) take

@@ -48,10 +48,10 @@ use Rattle.hl_rules.proofs.Here.{Setting, Here}
 use Rattle.hl_rules.proofs.Names.{names_of, joined_map}
 use Rattle.hl_typing.specs.Patterns as bindings
 use Rattle.hl_typing.specs.Patterns.{Matched, PatternAt, PatternsAt}
-use Rattle.hl_typing.proofs.Everywhere.{setting, declared_ran, function_first, alias_first, occurs_runs}
+use Rattle.hl_typing.proofs.Everywhere.{RunsAt, setting, declared_ran, function_first, alias_first, occurs_runs}
 use Rattle.hl_typing.proofs.Heads.{params_at}
 use Rattle.hl_typing.proofs.Patterns.{pattern_binds}
-use Rattle.hl_typing.proofs.Reached.{Runs, opened}
+use Rattle.hl_typing.proofs.Reached.{opened}
 use Rattle.hl_typing.proofs.Steps.{ran, ok_same, wants_ok}
 use Rattle.hl_typing.proofs.There.{step_there}
 use Rattle.hl_typing.proofs.Within.{Answers, block_ran, some_let, two_arms, match_ran}
@@ -177,7 +177,7 @@ side_ran aliases _ _ _ r (binds_left pattern text) h = binding_ran aliases patte
 side_ran aliases _ _ _ r (binds_right pattern text) h = binding_ran aliases pattern text _ r h
 side_ran aliases _ _ _ r (binds_some pattern text) h = binding_ran aliases pattern text _ r h
 
-arm_side : (s : Setting) (h : Here) (e : Expr) (before after : List Arm) (arm : Arm) (span : Span) (r : TypedForm × List TypedName) → Answers s (exprs.Match e (before ++ arm ∷ after)) span h r → (x : TypedSide × Scope) × (side_walk s.aliases arm.side ≡ Ok x)
+arm_side : (s : Setting) (h : Here s.program) (e : Expr) (before after : List Arm) (arm : Arm) (span : Span) (r : TypedForm × List TypedName) → Answers s (exprs.Match e (before ++ arm ∷ after)) span h r → (x : TypedSide × Scope) × (side_walk s.aliases arm.side ≡ Ok x)
 arm_side s h e [] [] arm span r w = let t = two_arms s e (arm ∷ []) h span r w in absurd (cc)
 arm_side s h e [] (two ∷ []) arm span r w = let m = match_ran s e arm two h span r w in (m.first, m.first_is)
 arm_side s h e [] (two ∷ three ∷ more) arm span r w = let t = two_arms s e (arm ∷ two ∷ three ∷ more) h span r w in absurd (cc)
@@ -186,53 +186,53 @@ arm_side s h e (one ∷ []) (three ∷ more) arm span r w = let t = two_arms s e
 arm_side s h e (one ∷ two ∷ []) after arm span r w = let t = two_arms s e (one ∷ two ∷ arm ∷ after) h span r w in absurd (cc)
 arm_side s h e (one ∷ two ∷ three ∷ before) after arm span r w = let t = two_arms s e (one ∷ two ∷ three ∷ (before ++ arm ∷ after)) h span r w in absurd (cc)
 
-module _ (program : List Item) (asked : List ℕ) (entries : List Entry) (end : ℕ) (final : Known × List TypedName) (answers : programs.items_walk entries (record { aliases = []; functions = [] }) program [] ≡ Ok final) where
-  abbrev pub whole_of : {at : Place} {form : ExprForm} {span : Span} → Runs program asked entries end at form span → Setting
-  whole_of r = setting program asked entries end final answers r.aliases r.functions r.in_main
+module _ (program : List Item) (asked : List ℕ) (entries : List Entry) (edition end : ℕ) (final : Known × List TypedName) (answers : programs.items_walk entries edition (record { aliases = []; functions = [] }) program [] ≡ Ok final) where
+  abbrev pub whole_of : {at : Place} {form : ExprForm} {span : Span} → RunsAt program asked entries edition end final answers at form span → Setting
+  whole_of r = setting program asked entries edition end final answers r.aliases r.functions r.in_main
 
   -- a type that is written where an expression stands
-  there : (at : Place) (form : ExprForm) (span : Span) (aliases : List TypedName) (r : Runs program asked entries end at form span) → at.aliases ≡ aliases → (text : TypeText) (k : HlType) → walk r.aliases text ≡ Ok k → TypeRan aliases text.form text.span
+  there : (at : Place) (form : ExprForm) (span : Span) (aliases : List TypedName) (r : RunsAt program asked entries edition end final answers at form span) → at.aliases ≡ aliases → (text : TypeText) (k : HlType) → walk r.aliases text ≡ Ok k → TypeRan aliases text.form text.span
   there at form span aliases r same text k h = subst (λ (l : List TypedName). TypeRan l text.form text.span) (ap (λ (p : Place). p.aliases) r.place_is ∙ same) (text_ran r.aliases text k h)
 
   pub written_ran : (aliases : List TypedName) (form : TypeForm) (span : Span) → IsWritten program aliases form span → TypeRan aliases form span
   written_ran aliases _ _ (written.of_alias name text span functions holds) =
-      let d = declared_ran program asked entries end final answers holds.before aliases functions holds.declared (items.Alias name text span ∷ holds.after) holds.is in
-      let f = alias_first program asked entries end final answers aliases d.functions name text span holds.after d.met d.runs in
+      let d = declared_ran program asked entries edition end final answers holds.before aliases functions holds.declared (items.Alias name text span ∷ holds.after) holds.is in
+      let f = alias_first program asked entries edition end final answers aliases d.functions name text span holds.after d.met d.runs in
       text_ran aliases text f.1.kind f.1.written
   written_ran aliases _ _ (written.of_param name before after param text e span functions holds) =
-      let d = declared_ran program asked entries end final answers holds.before aliases functions holds.declared (items.Function name (before ++ param ∷ after) text e span ∷ holds.after) holds.is in
-      let f = function_first program asked entries end final answers aliases d.functions name (before ++ param ∷ after) text e span holds.after d.met d.runs in
+      let d = declared_ran program asked entries edition end final answers holds.before aliases functions holds.declared (items.Function name (before ++ param ∷ after) text e span ∷ holds.after) holds.is in
+      let f = function_first program asked entries edition end final answers aliases d.functions name (before ++ param ∷ after) text e span holds.after d.met d.runs in
       let p = params_at aliases before param after [] f.1.head.params [] refl f.1.heads.params_are in
       text_ran aliases param.kind p.3.kind p.3.written
   written_ran aliases _ _ (written.of_result name params text e span functions holds) =
-      let d = declared_ran program asked entries end final answers holds.before aliases functions holds.declared (items.Function name params (Some text) e span ∷ holds.after) holds.is in
-      let f = function_first program asked entries end final answers aliases d.functions name params (Some text) e span holds.after d.met d.runs in
+      let d = declared_ran program asked entries edition end final answers holds.before aliases functions holds.declared (items.Function name params (Some text) e span ∷ holds.after) holds.is in
+      let f = function_first program asked entries edition end final answers aliases d.functions name params (Some text) e span holds.after d.met d.runs in
       text_ran aliases text f.1.head.result f.1.heads.result_is
   written_ran aliases _ _ (written.of_let at before after pattern text e stands last span same occurs) =
       let whole = before ++ statements.Let pattern text e stands ∷ after in
-      let r = occurs_runs program asked entries end final answers at (exprs.Block whole last) span occurs in
+      let r = occurs_runs program asked entries edition end final answers at (exprs.Block whole last) span occurs in
       let b = block_ran (whole_of r) r.here whole last span r.found r.runs in
       let l = some_let (whole_of r) before after pattern text e stands r.here.scope r.here.met b.0 b.1 in
       there at (exprs.Block whole last) span aliases r same text l.3.kind l.3.written
   written_ran aliases _ _ (written.of_side at e before after arm pattern text span same occurs binds) =
-      let r = occurs_runs program asked entries end final answers at (exprs.Match e (before ++ arm ∷ after)) span occurs in
+      let r = occurs_runs program asked entries edition end final answers at (exprs.Match e (before ++ arm ∷ after)) span occurs in
       let a = arm_side (whole_of r) r.here e before after arm span r.found r.runs in
       let q = side_ran r.aliases arm.side pattern text a.0 binds a.1 in
       there at (exprs.Match e (before ++ arm ∷ after)) span aliases r same text q.kind q.written
   written_ran aliases _ _ (written.of_into at text e span same occurs) =
-      let r = occurs_runs program asked entries end final answers at (exprs.Into text e) span occurs in
+      let r = occurs_runs program asked entries edition end final answers at (exprs.Into text e) span occurs in
       let a = step_there (walk r.aliases text) r.here.met _ r.found (opened (whole_of r) (ExprForm-F.Into text e) (exprs.Into text e) (exprs.rolls-Into text e) span r.here r.found r.runs) in
       there at (exprs.Into text e) span aliases r same text a.0 a.1
   written_ran aliases _ _ (written.of_unwrap_left at text e span same occurs) =
-      let r = occurs_runs program asked entries end final answers at (exprs.UnwrapLeft text e) span occurs in
+      let r = occurs_runs program asked entries edition end final answers at (exprs.UnwrapLeft text e) span occurs in
       let a = step_there (walk r.aliases text) r.here.met _ r.found (opened (whole_of r) (ExprForm-F.UnwrapLeft text e) (exprs.UnwrapLeft text e) (exprs.rolls-UnwrapLeft text e) span r.here r.found r.runs) in
       there at (exprs.UnwrapLeft text e) span aliases r same text a.0 a.1
   written_ran aliases _ _ (written.of_unwrap_right at text e span same occurs) =
-      let r = occurs_runs program asked entries end final answers at (exprs.UnwrapRight text e) span occurs in
+      let r = occurs_runs program asked entries edition end final answers at (exprs.UnwrapRight text e) span occurs in
       let a = step_there (walk r.aliases text) r.here.met _ r.found (opened (whole_of r) (ExprForm-F.UnwrapRight text e) (exprs.UnwrapRight text e) (exprs.rolls-UnwrapRight text e) span r.here r.found r.runs) in
       there at (exprs.UnwrapRight text e) span aliases r same text a.0 a.1
   written_ran aliases _ _ (written.of_is_none at text e span same occurs) =
-      let r = occurs_runs program asked entries end final answers at (exprs.IsNone text e) span occurs in
+      let r = occurs_runs program asked entries edition end final answers at (exprs.IsNone text e) span occurs in
       let a = step_there (walk r.aliases text) r.here.met _ r.found (opened (whole_of r) (ExprForm-F.IsNone text e) (exprs.IsNone text e) (exprs.rolls-IsNone text e) span r.here r.found r.runs) in
       there at (exprs.IsNone text e) span aliases r same text a.0 a.1
   written_ran aliases _ _ (written.in_tuple before after part span w) =
@@ -263,7 +263,7 @@ module _ (program : List Item) (asked : List ℕ) (entries : List Entry) (end : 
       let b = ran (walk aliases right) _ t.kind a.is in
       text_ran aliases right b.from b.was
 
-  whole_pattern : (at : Place) (form : ExprForm) (span : Span) (r : Runs program asked entries end at form span) (p : Pattern) (text : TypeText) (kind k : HlType) (bound : Scope) → walk at.aliases text ≡ Ok kind → walk r.aliases text ≡ Ok k →
+  whole_pattern : (at : Place) (form : ExprForm) (span : Span) (r : RunsAt program asked entries edition end final answers at form span) (p : Pattern) (text : TypeText) (kind k : HlType) (bound : Scope) → walk at.aliases text ≡ Ok kind → walk r.aliases text ≡ Ok k →
       pattern_walk p k [] ≡ Ok bound → PatternRan p.form p.span kind []
   whole_pattern at form span r p text kind k bound told found binds =
       let same : k ≡ kind = ok_same (sym found ∙ ap (λ (q : Place). walk q.aliases text) r.place_is ∙ told) in
@@ -272,12 +272,12 @@ module _ (program : List Item) (asked : List ℕ) (entries : List Entry) (end : 
   pub matched_ran : (form : PatternForm) (span : Span) (kind : HlType) (names : Names) → IsMatched program form span kind names → PatternRan form span kind names
   matched_ran _ _ _ _ (written.by_let at before after pattern text e stands last span kind occurs told) =
       let whole = before ++ statements.Let pattern text e stands ∷ after in
-      let r = occurs_runs program asked entries end final answers at (exprs.Block whole last) span occurs in
+      let r = occurs_runs program asked entries edition end final answers at (exprs.Block whole last) span occurs in
       let b = block_ran (whole_of r) r.here whole last span r.found r.runs in
       let l = some_let (whole_of r) before after pattern text e stands r.here.scope r.here.met b.0 b.1 in
       whole_pattern at (exprs.Block whole last) span r pattern text kind l.3.kind l.3.bound told l.3.written l.3.binds
   matched_ran _ _ _ _ (written.by_side at e before after arm pattern text span kind occurs binds told) =
-      let r = occurs_runs program asked entries end final answers at (exprs.Match e (before ++ arm ∷ after)) span occurs in
+      let r = occurs_runs program asked entries edition end final answers at (exprs.Match e (before ++ arm ∷ after)) span occurs in
       let a = arm_side (whole_of r) r.here e before after arm span r.found r.runs in
       let q = side_ran r.aliases arm.side pattern text a.0 binds a.1 in
       whole_pattern at (exprs.Match e (before ++ arm ∷ after)) span r pattern text kind q.kind q.bound told q.written q.binds

@@ -1,9 +1,8 @@
 -- Programs that the walk lets through are typed, and are the source's.
-use Rattle.std.proofs.Common.{◌≡◌, ℕ, Bool, true, false, not, List, [], ◌∷◌, ◌++◌, bytes_eq, find, cond, option_map, Option, Some, None, Result, Ok, Err, refl, sym, ap, ◌∙◌, subst, IsTrue, append_assoc, append-nil}
+use Rattle.std.proofs.Common.{◌≡◌, ℕ, Bool, true, false, not, List, [], ◌∷◌, ◌++◌, Option, Some, None, Result, Ok, Err, refl, sym, ap, ◌∙◌, subst, IsTrue, append_assoc, append-nil}
 use Rattle.std.specs.Prelude.{if◌then◌else◌}
 use Rattle.std.specs.List.{All}
 use Rattle.std.proofs.lemmas.List.Elements.{All-nil, All-cons}
-use Rattle.std.proofs.lemmas.Slice.Eq.{bytes_eq-Decides}
 use Rattle.hl_data.specs.declared.typed.TypedFunction.{TypedFunction}
 use Rattle.hl_data.specs.declared.value.Entry.{Entry}
 use Rattle.hl_syntax.specs.declared.kinds.HlType.{HlType}
@@ -37,7 +36,7 @@ use Rattle.hl_typing.specs.Programs.{witnesses_of, FunctionTyped, FunctionsTyped
 use Rattle.hl_typing.proofs.Bodies.{expr_good}
 use Rattle.hl_typing.proofs.Claims.{Setting, AreSound}
 use Rattle.hl_typing.proofs.Every.{Every, every_of, every_join}
-use Rattle.hl_typing.proofs.Once.{once_more, not_true, neither, other_way}
+use Rattle.hl_typing.proofs.Once.{once_more, not_true}
 use Rattle.hl_typing.proofs.Same.{same_equal}
 use Rattle.hl_typing.proofs.Sound.{walk_sound, unit_sound}
 use Rattle.hl_typing.proofs.Listed.{listed_once, listed_agree}

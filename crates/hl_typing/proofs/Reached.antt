@@ -1,5 +1,5 @@
 -- Where the walk of a form answers, the walk of each of its parts did.
-use Rattle.std.proofs.Common.{◌≡◌, ℕ, Bool, true, false, nat_eq, nat_lt, eqb-true, List, [], ◌∷◌, ◌++◌, length, map, flat_map, Some, Result, Ok, Err, refl, sym, ap, ◌∙◌, subst, append_assoc, append-nil, arith, length-append}
+use Rattle.std.proofs.Common.{◌≡◌, ℕ, Bool, true, false, nat_eq, nat_lt, eqb-true, List, [], ◌∷◌, ◌++◌, length, map, flat_map, Some, Ok, Err, refl, sym, ap, ◌∙◌, subst, append_assoc, append-nil, arith, length-append}
 use Rattle.std.specs.Prelude.{if◌then◌else◌}
 use Rattle.std.proofs.lemmas.List.{length-map}
 use Rattle.hl_data.specs.declared.typed.TypedExpr.{TypedExpr}
@@ -35,7 +35,7 @@ use Rattle.hl_rules.specs.Witnesses.{Names, expr_names}
 use Rattle.hl_rules.proofs.Bodies.{expr_fine}
 use Rattle.hl_rules.proofs.Fine.{Fine}
 use Rattle.hl_rules.proofs.Here.{Setting, Here, Met, ◌⊙◌, Meets, Bad, context, place, rule_of, signature_of, signature_found}
-use Rattle.hl_rules.proofs.Names.{names_of, flat_more}
+use Rattle.hl_rules.proofs.Names.{flat_more}
 use Rattle.hl_typing.proofs.Every.{Every}
 use Rattle.hl_typing.proofs.Keeping.{ExprKeeps, expr_keeps, parts_keep, items_keep}
 use Rattle.hl_typing.proofs.Steps.{ran, ok_same}

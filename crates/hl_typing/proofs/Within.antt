@@ -24,10 +24,12 @@ use Rattle.hl_rules.specs.Occurs.{Place, Occurs, Leaves, no_statement, after_let
 use Rattle.hl_rules.specs.Occurs as occurs
 use Rattle.hl_rules.specs.Patterns.{pattern_walk}
 use Rattle.hl_rules.specs.Places.{Scope}
-use Rattle.hl_rules.specs.Same.{unit_type}
+use Rattle.hl_rules.specs.Same.{same_type, unit_type}
 use Rattle.hl_rules.specs.Witnesses.{Names, expr_names, statement_names, arm_names, names_step, statement_names_step}
-use Rattle.hl_rules.proofs.Here.{Setting, Here, context, place, rule_of}
-use Rattle.hl_rules.proofs.Names.{names_of, flat_more}
+use Rattle.hl_rules.proofs.Here.{Setting, Here, Met, ◌⊙◌, context, place, rule_of}
+use Rattle.hl_rules.proofs.Names.{flat_more}
+use Rattle.hl_typing.proofs.Every.{Every}
+use Rattle.hl_typing.proofs.Keeping.{StatementKeeps, expr_keeps, statement_keeps, statements_keep}
 use Rattle.hl_typing.proofs.Reached.{RunsHere, Ran, opened, meets, runs_at, arm_walk}
 use Rattle.hl_typing.proofs.Steps.{ran, ok_same}
 use Rattle.hl_typing.proofs.There.{needs_there, step_there}
@@ -171,59 +173,90 @@ module _ (s : Setting) where
     all : Block
     runs : statements_walk (walks whole) h.scope h.met ≡ Ok all
 
-  record LastRan (h : Here s.program) (whole : List Statement) (e : Expr) : Type 0 where
+  record LastRan (h : Here s.program) (whole : List Statement) (e : Expr) (r : TypedForm × List TypedName) : Type 0 where
     block : BlockRan h whole
     value : TypedExpr × List TypedName
     ends : Ran s e block.all.0.1 h.expected K6 block.all.1 value
+    met_is : value.1 ≡ r.1
 
   abbrev pub Answers : ExprForm → Span → Here s.program → TypedForm × List TypedName → Type 0
   Answers form span h r = form_walk (context s) form span h.scope h.expected (rule_of h.alone) h.met ≡ Ok r
 
-  last_ran : (h : Here s.program) (whole : List Statement) (e : Expr) (span : Span) (r : TypedForm × List TypedName) → Answers (exprs.Block whole (Some e)) span h r → LastRan h whole e
+  last_ran : (h : Here s.program) (whole : List Statement) (e : Expr) (span : Span) (r : TypedForm × List TypedName) → Answers (exprs.Block whole (Some e)) span h r → LastRan h whole e r
   last_ran h whole e span r w =
       let a = ran (statements_walk (walks whole) h.scope h.met) _ r (opened s (ExprForm-F.Block whole (Some e)) (exprs.Block whole (Some e)) (exprs.rolls-Block whole (Some e)) span h r w) in
       let b = ran (last_walk (Some (expr_walk (context s) e)) span a.from.0.1 h.expected (rule_of h.alone) a.from.1) _ r a.is in
       let c = ran (expr_walk (context s) e a.from.0.1 h.expected K6 a.from.1) _ b.from b.was in
-      record { block = record { all = a.from; runs = a.was }; value = c.from; ends = c.was }
+      record {
+        block = record { all = a.from; runs = a.was };
+        value = c.from;
+        ends = c.was;
+        met_is = ap (λ (x : Option TypedExpr × List TypedName). x.1) (ok_same c.is) ∙ ap (λ (x : TypedForm × List TypedName). x.1) (ok_same b.is);
+      }
 
   pub block_ran : (h : Here s.program) (whole : List Statement) (last : Option Expr) (span : Span) (r : TypedForm × List TypedName) → Answers (exprs.Block whole last) span h r → (all : Block) × (statements_walk (walks whole) h.scope h.met ≡ Ok all)
   block_ran h whole (Some e) span r w = let l = last_ran h whole e span r w in (l.block.all, l.block.runs)
   block_ran h whole None span r w =
       let a = ran (statements_walk (walks whole) h.scope h.met) _ r (opened s (ExprForm-F.Block whole None) (exprs.Block whole None) (exprs.rolls-Block whole None) span h r w) in (a.from, a.was)
 
-  pub value_runs : (h : Here s.program) (before after : List Statement) (pattern : Pattern) (text : TypeText) (e : Expr) (stands : Span) (last : Option Expr) (span : Span) (scope : Scope) (kind : HlType) (r : TypedForm × List TypedName) →
+  -- the same with what holds of the witnesses that are met
+  kept_block : (P : TypedName → Type 0) (h : Here s.program) (whole : List Statement) (last : Option Expr) (span : Span) (r : TypedForm × List TypedName) → Answers (exprs.Block whole last) span h r → Every P r.1 →
+      (all : Block) × (statements_walk (walks whole) h.scope h.met ≡ Ok all) × Every P all.1
+  kept_block P h whole (Some e) span r w kept =
+      let l = last_ran h whole e span r w in
+      let value : Every P l.value.1 = subst (Every P) (sym l.met_is) kept in
+      (l.block.all, l.block.runs, (expr_keeps s.edition P (context s) refl e l.block.all.0.1 h.expected K6 l.block.all.1 l.value.1 l.value.0 l.ends).back value)
+  kept_block P h whole None span r w kept =
+      let a = ran (statements_walk (walks whole) h.scope h.met) _ r (opened s (ExprForm-F.Block whole None) (exprs.Block whole None) (exprs.rolls-Block whole None) span h r w) in
+      let b = ran (last_walk None span a.from.0.1 h.expected (rule_of h.alone) a.from.1) _ r a.is in
+      let c = needs_there (same_type unit_type h.expected) (rule_of h.alone) span a.from.1 _ b.from b.was in
+      let same : a.from.1 ≡ r.1 = ap (λ (x : Option TypedExpr × List TypedName). x.1) (ok_same c.1) ∙ ap (λ (x : TypedForm × List TypedName). x.1) (ok_same b.is) in
+      (a.from, a.was, subst (Every P) (sym same) kept)
+
+  all_statements_keep : (P : TypedName → Type 0) (ss : List Statement) → Every (StatementKeeps s.edition P) (walks ss)
+  all_statements_keep P [] = tt
+  all_statements_keep P (st ∷ ss) = (statement_keeps s.edition P (context s) refl st, all_statements_keep P ss)
+
+  -- after a statement, where the rest is walked to the end of a block
+  after_kept : (P : TypedName → Type 0) (rest : List Statement) (scope : Scope) (met : List TypedName) (left : Block) → statements_walk (walks rest) scope met ≡ Ok left → Every P left.1 → Every P met
+  after_kept P rest scope met left runs kept = (statements_keep s.edition P (walks rest) (all_statements_keep P rest) scope met left.1 left.0 runs).back kept
+
+  pub value_runs : (P : TypedName → Type 0) (h : Here s.program) (before after : List Statement) (pattern : Pattern) (text : TypeText) (e : Expr) (stands : Span) (last : Option Expr) (span : Span) (scope : Scope) (kind : HlType) (r : TypedForm × List TypedName) →
       Occurs s.program (place s h) (exprs.Block (before ++ statements.Let pattern text e stands ∷ after) last) span → Leaves s.aliases h.scope before scope → walk s.aliases text ≡ Ok kind →
-      Answers (exprs.Block (before ++ statements.Let pattern text e stands ∷ after) last) span h r → RunsHere s (inside (with_scope (place s h) scope) kind (flat_map statement_names before)) e.form e.span
-  value_runs h before after pattern text e stands last span scope kind r at leaves written w =
+      Answers (exprs.Block (before ++ statements.Let pattern text e stands ∷ after) last) span h r → Every P r.1 → RunsHere P s (inside (with_scope (place s h) scope) kind (flat_map statement_names before)) e.form e.span
+  value_runs P h before after pattern text e stands last span scope kind r at leaves written w kept =
       let st = statements.Let pattern text e stands in
-      let b = block_ran h (before ++ st ∷ after) last span r w in
+      let b = kept_block P h (before ++ st ∷ after) last span r w kept in
       let l = leaves_ran h (before ++ st ∷ after) last span at before scope leaves (st ∷ after) refl b.0 b.1 in
       let f = first_ran st after scope l.met l.left l.runs in
+      let first : Every P f.first.1 = after_kept P after f.first.0.1 f.first.1 f.left f.runs (subst (Every P) (sym (f.met_is ∙ l.met_is)) b.2) in
       let q = let_ran pattern text e stands scope l.met f.first f.is in
       let kind_is : q.kind ≡ kind = ok_same (sym q.written ∙ written) in
-      runs_at s e (record { scope = scope; expected = kind; alone = false; before = h.before ++ flat_map statement_names before; met = l.met; named = l.named }) q.value (subst (λ (k : HlType). Ran s e scope k K6 l.met q.value) kind_is q.runs)
+      runs_at P s e (record { scope = scope; expected = kind; alone = false; before = h.before ++ flat_map statement_names before; met = l.met; named = l.named }) q.value
+      (subst (λ (k : HlType). Ran s e scope k K6 l.met q.value) kind_is q.runs) (subst (Every P) (sym q.met_is) first)
 
-  pub statement_runs : (h : Here s.program) (before after : List Statement) (e : Expr) (last : Option Expr) (span : Span) (scope : Scope) (r : TypedForm × List TypedName) →
+  pub statement_runs : (P : TypedName → Type 0) (h : Here s.program) (before after : List Statement) (e : Expr) (last : Option Expr) (span : Span) (scope : Scope) (r : TypedForm × List TypedName) →
       Occurs s.program (place s h) (exprs.Block (before ++ statements.Plain e ∷ after) last) span → Leaves s.aliases h.scope before scope →
-      Answers (exprs.Block (before ++ statements.Plain e ∷ after) last) span h r → RunsHere s (alone (with_scope (place s h) scope) (flat_map statement_names before)) e.form e.span
-  statement_runs h before after e last span scope r at leaves w =
+      Answers (exprs.Block (before ++ statements.Plain e ∷ after) last) span h r → Every P r.1 → RunsHere P s (alone (with_scope (place s h) scope) (flat_map statement_names before)) e.form e.span
+  statement_runs P h before after e last span scope r at leaves w kept =
       let st = statements.Plain e in
-      let b = block_ran h (before ++ st ∷ after) last span r w in
+      let b = kept_block P h (before ++ st ∷ after) last span r w kept in
       let l = leaves_ran h (before ++ st ∷ after) last span at before scope leaves (st ∷ after) refl b.0 b.1 in
       let f = first_ran st after scope l.met l.left l.runs in
+      let first : Every P f.first.1 = after_kept P after f.first.0.1 f.first.1 f.left f.runs (subst (Every P) (sym (f.met_is ∙ l.met_is)) b.2) in
       let q = plain_ran e scope l.met f.first f.is in
-      runs_at s e (record { scope = scope; expected = unit_type; alone = true; before = h.before ++ flat_map statement_names before; met = l.met; named = l.named }) q.value q.runs
+      runs_at P s e (record { scope = scope; expected = unit_type; alone = true; before = h.before ++ flat_map statement_names before; met = l.met; named = l.named }) q.value q.runs (subst (Every P) (sym q.met_is) first)
 
-  pub last_runs : (h : Here s.program) (before : List Statement) (e : Expr) (span : Span) (scope : Scope) (r : TypedForm × List TypedName) → Occurs s.program (place s h) (exprs.Block before (Some e)) span → Leaves s.aliases h.scope before scope →
-      Answers (exprs.Block before (Some e)) span h r → RunsHere s (inside (with_scope (place s h) scope) h.expected (flat_map statement_names before)) e.form e.span
-  last_runs h before e span scope r at leaves w =
+  pub last_runs : (P : TypedName → Type 0) (h : Here s.program) (before : List Statement) (e : Expr) (span : Span) (scope : Scope) (r : TypedForm × List TypedName) → Occurs s.program (place s h) (exprs.Block before (Some e)) span → Leaves s.aliases h.scope before scope →
+      Answers (exprs.Block before (Some e)) span h r → Every P r.1 → RunsHere P s (inside (with_scope (place s h) scope) h.expected (flat_map statement_names before)) e.form e.span
+  last_runs P h before e span scope r at leaves w kept =
       let b = last_ran h before e span r w in
       let l = leaves_ran h before (Some e) span at before scope leaves [] (sym (append-nil before)) b.block.all b.block.runs in
       let same = ok_same l.runs in
       let scope_is : b.block.all.0.1 ≡ scope = sym (ap (λ (x : Block). x.0.1) same ∙ l.scope_is) in
       let met_is : b.block.all.1 ≡ l.met = sym (ap (λ (x : Block). x.1) same ∙ l.met_is) in
-      runs_at s e (record { scope = scope; expected = h.expected; alone = false; before = h.before ++ flat_map statement_names before; met = l.met; named = l.named }) b.value
-      (subst (λ (m : List TypedName). Ran s e scope h.expected K6 m b.value) met_is (subst (λ (k : Scope). Ran s e k h.expected K6 b.block.all.1 b.value) scope_is b.ends))
+      runs_at P s e (record { scope = scope; expected = h.expected; alone = false; before = h.before ++ flat_map statement_names before; met = l.met; named = l.named }) b.value
+      (subst (λ (m : List TypedName). Ran s e scope h.expected K6 m b.value) met_is (subst (λ (k : Scope). Ran s e k h.expected K6 b.block.all.1 b.value) scope_is b.ends)) (subst (Every P) (sym b.met_is) kept)
 
   -- Matches.
 
@@ -236,7 +269,7 @@ module _ (s : Setting) where
   arm_named : (arm : Arm) → arm_names arm ≡ expr_names arm.body
   arm_named arm = fold_out-Arm Names Names Names Names names_step statement_names_step (λ arm. arm.body) (λ e. e.form) arm
 
-  pub record MatchRan (e : Expr) (one two : Arm) (h : Here s.program) : Type 0 where
+  pub record MatchRan (e : Expr) (one two : Arm) (h : Here s.program) (r : TypedForm × List TypedName) : Type 0 where
     pub are : are_sides one.side two.side ≡ true
     pub first : TypedSide × Scope
     pub first_is : side_walk s.aliases one.side ≡ Ok first
@@ -248,8 +281,9 @@ module _ (s : Setting) where
     pub body_is : Ran s one.body (first.1 ++ h.scope) h.expected K6 value.1 body
     pub other : TypedExpr × List TypedName
     pub other_is : Ran s two.body (second.1 ++ h.scope) h.expected K6 body.1 other
+    pub met_is : other.1 ≡ r.1
 
-  pub match_ran : (e : Expr) (one two : Arm) (h : Here s.program) (span : Span) (r : TypedForm × List TypedName) → Answers (exprs.Match e (one ∷ two ∷ [])) span h r → MatchRan e one two h
+  pub match_ran : (e : Expr) (one two : Arm) (h : Here s.program) (span : Span) (r : TypedForm × List TypedName) → Answers (exprs.Match e (one ∷ two ∷ [])) span h r → MatchRan e one two h r
   match_ran e one two h span r w =
       let opens : match_walk s.aliases (expr_walk (context s) e) (arm_walk s one) (arm_walk s two) span h.scope h.expected (rule_of h.alone) h.met ≡ Ok r =
       opened s (ExprForm-F.Match e (one ∷ two ∷ [])) (exprs.Match e (one ∷ two ∷ [])) (exprs.rolls-Match e (one ∷ two ∷ [])) span h r w in
@@ -262,7 +296,33 @@ module _ (s : Setting) where
       let d = ran (expr_walk (context s) e h.scope (matched_type b.0.0 c.0.0) K6 h.met) _ r c.2 in
       let f = ran (expr_walk (context s) one.body (b.0.1 ++ h.scope) h.expected K6 d.from.1) _ r d.is in
       let g = ran (expr_walk (context s) two.body (c.0.1 ++ h.scope) h.expected K6 f.from.1) _ r f.is in
-      record { are = a.0; first = b.0; first_is = b.1; second = c.0; second_is = c.1; value = d.from; value_is = d.was; body = f.from; body_is = f.was; other = g.from; other_is = g.was }
+      record {
+        are = a.0;
+        first = b.0;
+        first_is = b.1;
+        second = c.0;
+        second_is = c.1;
+        value = d.from;
+        value_is = d.was;
+        body = f.from;
+        body_is = f.was;
+        other = g.from;
+        other_is = g.was;
+        met_is = ap (λ (x : TypedForm × List TypedName). x.1) (ok_same g.is);
+      }
+
+  -- what holds of the witnesses that are met, arm by arm
+  record MatchKept (P : TypedName → Type 0) (e : Expr) (one two : Arm) (h : Here s.program) (r : TypedForm × List TypedName) (m : MatchRan e one two h r) : Type 0 where
+    other : Every P m.other.1
+    body : Every P m.body.1
+    value : Every P m.value.1
+
+  match_kept : (P : TypedName → Type 0) (e : Expr) (one two : Arm) (h : Here s.program) (r : TypedForm × List TypedName) (m : MatchRan e one two h r) → Every P r.1 → MatchKept P e one two h r m
+  match_kept P e one two h r m kept =
+      let other : Every P m.other.1 = subst (Every P) (sym m.met_is) kept in
+      let body : Every P m.body.1 = (expr_keeps s.edition P (context s) refl two.body (m.second.1 ++ h.scope) h.expected K6 m.body.1 m.other.1 m.other.0 m.other_is).back other in
+      let value : Every P m.value.1 = (expr_keeps s.edition P (context s) refl one.body (m.first.1 ++ h.scope) h.expected K6 m.value.1 m.body.1 m.body.0 m.body_is).back body in
+      record { other = other; body = body; value = value }
 
   -- a match has two arms
   pub two_arms : (e : Expr) (arms : List Arm) (h : Here s.program) (span : Span) (r : TypedForm × List TypedName) → Answers (exprs.Match e arms) span h r → (one : Arm) × (two : Arm) × (arms ≡ one ∷ two ∷ [])
@@ -275,44 +335,45 @@ module _ (s : Setting) where
   side_one : (x y : TypedSide × Scope) → ◌≡◌ {A = Result (TypedSide × Scope) Broken} (Ok x) (Ok y) → x ≡ y
   side_one x y h = ok_same h
 
-  scrutinee_named : (h : Here s.program) (e : Expr) (one two : Arm) (span : Span) → Occurs s.program (place s h) (exprs.Match e (one ∷ two ∷ [])) span → (m : MatchRan e one two h) → names_of m.value.1 ≡ h.before ++ expr_names e
-  scrutinee_named h e one two span at m =
+  scrutinee_named : (h : Here s.program) (e : Expr) (one two : Arm) (span : Span) (r : TypedForm × List TypedName) → Occurs s.program (place s h) (exprs.Match e (one ∷ two ∷ [])) span → (m : MatchRan e one two h r) → Met s.program (h.before ++ expr_names e) m.value.1
+  scrutinee_named h e one two span r at m =
       meets s e (record { scope = h.scope; expected = matched_type m.first.0 m.second.0; alone = false; before = h.before ++ []; met = h.met; named = h.named ⊙ sym (append-nil h.before) })
-      (occurs.scrutinee (place s h) e one two span m.first.0 m.second.0 m.first.1 m.second.1 at m.are m.first_is m.second_is) m.value m.value_is ∙ ap (λ (ns : Names). ns ++ expr_names e) (append-nil h.before)
+      (occurs.scrutinee (place s h) e one two span m.first.0 m.second.0 m.first.1 m.second.1 at m.are m.first_is m.second_is) m.value m.value_is ⊙ ap (λ (ns : Names). ns ++ expr_names e) (append-nil h.before)
 
-  pub scrutinee_runs : (h : Here s.program) (e : Expr) (one two : Arm) (span : Span) (first second : TypedSide) (first_bound second_bound : Scope) (r : TypedForm × List TypedName) → side_walk s.aliases one.side ≡ Ok (first, first_bound) →
-      side_walk s.aliases two.side ≡ Ok (second, second_bound) → Answers (exprs.Match e (one ∷ two ∷ [])) span h r → RunsHere s (inside (place s h) (matched_type first second) []) e.form e.span
-  scrutinee_runs h e one two span first second first_bound second_bound r first_is second_is w =
+  pub scrutinee_runs : (P : TypedName → Type 0) (h : Here s.program) (e : Expr) (one two : Arm) (span : Span) (first second : TypedSide) (first_bound second_bound : Scope) (r : TypedForm × List TypedName) → side_walk s.aliases one.side ≡ Ok (first, first_bound) →
+      side_walk s.aliases two.side ≡ Ok (second, second_bound) → Answers (exprs.Match e (one ∷ two ∷ [])) span h r → Every P r.1 → RunsHere P s (inside (place s h) (matched_type first second) []) e.form e.span
+  scrutinee_runs P h e one two span first second first_bound second_bound r first_is second_is w kept =
       let m = match_ran e one two h span r w in
       let one_is : m.first ≡ (first, first_bound) = side_one m.first (first, first_bound) (sym m.first_is ∙ first_is) in
       let two_is : m.second ≡ (second, second_bound) = side_one m.second (second, second_bound) (sym m.second_is ∙ second_is) in
-      runs_at s e (record { scope = h.scope; expected = matched_type first second; alone = false; before = h.before ++ []; met = h.met; named = h.named ⊙ sym (append-nil h.before) }) m.value
+      runs_at P s e (record { scope = h.scope; expected = matched_type first second; alone = false; before = h.before ++ []; met = h.met; named = h.named ⊙ sym (append-nil h.before) }) m.value
       (subst (λ (x : TypedSide × Scope). Ran s e h.scope (matched_type first x.0) K6 h.met m.value) two_is (subst (λ (x : TypedSide × Scope). Ran s e h.scope (matched_type x.0 m.second.0) K6 h.met m.value) one_is m.value_is))
+      (match_kept P e one two h r m kept).value
 
   -- the arm after others
-  pub arm_runs : (h : Here s.program) (e : Expr) (before after : List Arm) (one : Arm) (span : Span) (side : TypedSide) (bound : Scope) (r : TypedForm × List TypedName) → Occurs s.program (place s h) (exprs.Match e (before ++ one ∷ after)) span →
-      side_walk s.aliases one.side ≡ Ok (side, bound) → Answers (exprs.Match e (before ++ one ∷ after)) span h r →
-      RunsHere s (inside (with_scope (place s h) (bound ++ h.scope)) h.expected (expr_names e ++ flat_map arm_names before)) one.body.form one.body.span
-  arm_runs h e [] [] one span side bound r at is w = let t = two_arms e (one ∷ []) h span r w in absurd (cc)
-  arm_runs h e [] (two ∷ []) one span side bound r at is w =
+  pub arm_runs : (P : TypedName → Type 0) (h : Here s.program) (e : Expr) (before after : List Arm) (one : Arm) (span : Span) (side : TypedSide) (bound : Scope) (r : TypedForm × List TypedName) → Occurs s.program (place s h) (exprs.Match e (before ++ one ∷ after)) span →
+      side_walk s.aliases one.side ≡ Ok (side, bound) → Answers (exprs.Match e (before ++ one ∷ after)) span h r → Every P r.1 →
+      RunsHere P s (inside (with_scope (place s h) (bound ++ h.scope)) h.expected (expr_names e ++ flat_map arm_names before)) one.body.form one.body.span
+  arm_runs P h e [] [] one span side bound r at is w kept = let t = two_arms e (one ∷ []) h span r w in absurd (cc)
+  arm_runs P h e [] (two ∷ []) one span side bound r at is w kept =
       let m = match_ran e one two h span r w in
       let same : m.first ≡ (side, bound) = side_one m.first (side, bound) (sym m.first_is ∙ is) in
-      let named : names_of m.value.1 ≡ h.before ++ (expr_names e ++ []) = scrutinee_named h e one two span at m ∙ ap (λ (ns : Names). h.before ++ ns) (sym (append-nil (expr_names e))) in
-      runs_at s one.body (record { scope = bound ++ h.scope; expected = h.expected; alone = false; before = h.before ++ (expr_names e ++ []); met = m.value.1; named = named }) m.body
-      (subst (λ (x : TypedSide × Scope). Ran s one.body (x.1 ++ h.scope) h.expected K6 m.value.1 m.body) same m.body_is)
-  arm_runs h e [] (two ∷ three ∷ more) one span side bound r at is w = let t = two_arms e (one ∷ two ∷ three ∷ more) h span r w in absurd (cc)
-  arm_runs h e (first ∷ []) [] one span side bound r at is w =
+      let named : Met s.program (h.before ++ (expr_names e ++ [])) m.value.1 = scrutinee_named h e one two span r at m ⊙ ap (λ (ns : Names). h.before ++ ns) (sym (append-nil (expr_names e))) in
+      runs_at P s one.body (record { scope = bound ++ h.scope; expected = h.expected; alone = false; before = h.before ++ (expr_names e ++ []); met = m.value.1; named = named }) m.body
+      (subst (λ (x : TypedSide × Scope). Ran s one.body (x.1 ++ h.scope) h.expected K6 m.value.1 m.body) same m.body_is) (match_kept P e one two h r m kept).body
+  arm_runs P h e [] (two ∷ three ∷ more) one span side bound r at is w kept = let t = two_arms e (one ∷ two ∷ three ∷ more) h span r w in absurd (cc)
+  arm_runs P h e (first ∷ []) [] one span side bound r at is w kept =
       let m = match_ran e first one h span r w in
       let same : m.second ≡ (side, bound) = side_one m.second (side, bound) (sym m.second_is ∙ is) in
       let n = expr_names e in
-      let value_named : names_of m.value.1 ≡ h.before ++ (n ++ []) = scrutinee_named h e first one span at m ∙ ap (λ (ns : Names). h.before ++ ns) (sym (append-nil n)) in
+      let value_named : Met s.program (h.before ++ (n ++ [])) m.value.1 = scrutinee_named h e first one span r at m ⊙ ap (λ (ns : Names). h.before ++ ns) (sym (append-nil n)) in
       let body_named = meets s first.body (record { scope = m.first.1 ++ h.scope; expected = h.expected; alone = false; before = h.before ++ (n ++ []); met = m.value.1; named = value_named })
       (occurs.arm (place s h) e [] (one ∷ []) first span m.first.0 m.first.1 at m.first_is) m.body m.body_is in
-      let named : names_of m.body.1 ≡ h.before ++ (n ++ (arm_names first ++ [])) =
-      body_named ∙ ap (λ (ns : Names). (h.before ++ ns) ++ expr_names first.body) (append-nil n) ∙ append_assoc h.before n (expr_names first.body)
+      let named : Met s.program (h.before ++ (n ++ (arm_names first ++ []))) m.body.1 =
+      body_named ⊙ ap (λ (ns : Names). (h.before ++ ns) ++ expr_names first.body) (append-nil n) ∙ append_assoc h.before n (expr_names first.body)
       ∙ ap (λ (ns : Names). h.before ++ (n ++ ns)) (sym (arm_named first) ∙ sym (append-nil (arm_names first))) in
-      runs_at s one.body (record { scope = bound ++ h.scope; expected = h.expected; alone = false; before = h.before ++ (n ++ (arm_names first ++ [])); met = m.body.1; named = named }) m.other
-      (subst (λ (x : TypedSide × Scope). Ran s one.body (x.1 ++ h.scope) h.expected K6 m.body.1 m.other) same m.other_is)
-  arm_runs h e (first ∷ []) (three ∷ more) one span side bound r at is w = let t = two_arms e (first ∷ one ∷ three ∷ more) h span r w in absurd (cc)
-  arm_runs h e (first ∷ second ∷ []) after one span side bound r at is w = let t = two_arms e (first ∷ second ∷ one ∷ after) h span r w in absurd (cc)
-  arm_runs h e (first ∷ second ∷ third ∷ before) after one span side bound r at is w = let t = two_arms e (first ∷ second ∷ third ∷ (before ++ one ∷ after)) h span r w in absurd (cc)
+      runs_at P s one.body (record { scope = bound ++ h.scope; expected = h.expected; alone = false; before = h.before ++ (n ++ (arm_names first ++ [])); met = m.body.1; named = named }) m.other
+      (subst (λ (x : TypedSide × Scope). Ran s one.body (x.1 ++ h.scope) h.expected K6 m.body.1 m.other) same m.other_is) (match_kept P e first one h r m kept).other
+  arm_runs P h e (first ∷ []) (three ∷ more) one span side bound r at is w kept = let t = two_arms e (first ∷ one ∷ three ∷ more) h span r w in absurd (cc)
+  arm_runs P h e (first ∷ second ∷ []) after one span side bound r at is w kept = let t = two_arms e (first ∷ second ∷ one ∷ after) h span r w in absurd (cc)
+  arm_runs P h e (first ∷ second ∷ third ∷ before) after one span side bound r at is w kept = let t = two_arms e (first ∷ second ∷ third ∷ (before ++ one ∷ after)) h span r w in absurd (cc)
