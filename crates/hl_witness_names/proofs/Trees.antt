@@ -18,7 +18,7 @@ use Rattle.hl_syntax.specs.declared.tree.Statement.{Statement}
 use Rattle.hl_rules.specs.Witnesses.{Names, joined, if_any, form_names, statement_names, arm_names, expr_names}
 use Rattle.hl_typing.specs.Erased as erased
 use Rattle.hl_typing.specs.Erased.{Erased, Paired, FormOf, ExprsOf, StatementOf, StatementsOf, LastOf, ArmOf}
-use Rattle.hl_typing.specs.Names.{ArmNames, Order, in_text, in_term, goes_first, names_in_form, names_in_statement, names_in_arm, names_in}
+use Rattle.hl_typing.specs.Names.{in_text, in_term, goes_first, names_in_form, names_in_statement, names_in}
 use Rattle.hl_witness_names.proofs.Layers.{Layer, TypedLayer, source_layer, source_form, source_expr, source_arm, source_let, source_plain, typed_layer, typed_form, typed_expr, typed_arms, typed_let, typed_plain}
 
 -- the names in a term, those in the typed tree's text, and those of its source
