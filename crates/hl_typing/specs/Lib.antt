@@ -2,4 +2,5 @@ pub mod Patterns
 pub mod Typing
 pub mod Erased
 pub mod Programs
+pub mod Names
 pub mod Laws

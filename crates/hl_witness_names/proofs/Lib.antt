@@ -1,0 +1,4 @@
+pub mod Layers
+pub mod Trees
+pub mod Unnamed
+pub mod Held
