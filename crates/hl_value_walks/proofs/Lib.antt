@@ -1,0 +1,4 @@
+pub mod Layers
+pub mod Spelling
+pub mod Walking
+pub mod Standing

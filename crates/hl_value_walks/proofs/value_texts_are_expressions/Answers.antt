@@ -1,0 +1,5 @@
+use Rattle.hl_value_walks.proofs.Standing.{texts_lift}
+use Rattle.hl_value_walks.proofs.value_texts_are_expressions.Goals as goal
+
+pub returns : goal.returns
+returns c = texts_lift
