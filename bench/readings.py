@@ -24,7 +24,7 @@ LINES = {
     "word_math": "jets simplicity core_data",
     "type_table": "simplicity core_data indexmap",
     "cell_bits": "spelling simplicity",
-    "term_core": "simplicity jets core_data word_math type_table",
+    "term_core": "simplicity jets core_data word_math type_table indexmap",
     "bit_codec": "spelling simplicity jets cell_bits word_math term_core",
     "reading_bench": "simplicity cell_bits term_core bit_codec",
 }

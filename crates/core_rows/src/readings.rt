@@ -1,8 +1,12 @@
 //! Hostile bits: what a program's bytes are refused for, and the compact codes of values.
 
-use bit_codec::{CodecRefusal, read_program};
-use cell_bits::{BitReader, BitRefusal};
+ghost use Rattle.std.specs.Prelude.{◌<◌, ◌≤◌, length};
+
+use bit_codec::{CodecRefusal, CompactRefusal, read_compact, read_program, write_compact};
+use cell_bits::{BitReader, BitRefusal, BitWriter};
+use std::alloc::Global;
 use std::test::Fail;
+use type_table::{TypeId, TypeTable};
 
 #[test]
 fn refuses_hostile_programs(rt: HostRuntime) -> Result<(), Fail> {
@@ -54,5 +58,65 @@ fn goes_through_bits(rt: HostRuntime) -> Result<(), Fail> {
     assert_eq!(rt; bits.tail(), Ok(()));
     bits.back(8);
     assert_eq!(rt; bits.tail(), Err(BitRefusal::BadPadding { at: 8 }));
+    Ok(())
+}
+
+/// Whether a value of a type is read behind so many bits, and written again as bytes in so many bits; or that the bits
+/// end in it, at their number.
+fn reads_as(
+    alloc: Global,
+    types: &TypeTable,
+    kind: TypeId,
+    bytes: &[u8],
+    skipped: u32,
+    want: Result<(u128, &[u8]), u128>,
+) -> Result<bool, Fail>
+    requires there { kind < length types.now }
+    requires narrow { skipped ≤ 64 }
+{
+    let mut bits = BitReader::new(bytes);
+    let _front = bits.number(skipped);
+    let start = bits.at();
+    match read_compact(alloc, &mut bits, kind, types) {
+        Ok(value) => {
+            let mut again = BitWriter::new(alloc);
+            write_compact(alloc, &value, &mut again)?;
+            let count = again.len();
+            let code = again.finish()?;
+            let read = bits.at().checked_sub(start);
+            Ok(want == Ok((count, code.as_slice())) && read == Some(count))
+        }
+        Err(CompactRefusal::EndOfBits { at }) => Ok(want == Err(at) && bits.at() == start),
+        Err(CompactRefusal::OutOfMemory) => Ok(false),
+    }
+}
+
+#[test]
+#[tactic(auto, using(type_table::proofs::Growth::grown_length))]
+fn reads_and_writes_compact_codes(rt: HostRuntime) -> Result<(), Fail> {
+    let mut types = TypeTable::new(rt.alloc());
+    let one = types.unit()?;
+    let bit = types.sum(one, one)?;
+    let byte = types.word(8)?;
+    let option = types.sum(one, byte)?;
+    let pair = types.product(option, option)?;
+    let rows: [(&[u8], u32, Result<(u128, &[u8]), u128>); 8] = [
+        (&[], 0, Err(0)),
+        (&[0xAD], 0, Err(8)),
+        (&[0xAD, 0x00], 0, Ok((10, &[0xAD, 0x00]))),
+        (&[0xAD, 0x56], 0, Err(16)),
+        (&[0xAD, 0x56, 0xBF], 0, Ok((18, &[0xAD, 0x56, 0x80]))),
+        (&[0x56], 1, Err(8)),
+        (&[0x56, 0x80], 1, Ok((10, &[0xAD, 0x00]))),
+        (&[0xC7], 2, Ok((2, &[0x00]))),
+    ];
+    for (bytes, skipped, want) in rows {
+        if skipped <= 64 {
+            assert!(rt; reads_as(rt.alloc(), &types, pair, bytes, skipped, want)?);
+        }
+    }
+    assert!(rt; reads_as(rt.alloc(), &types, one, &[], 0, Ok((0, &[])))?);
+    assert!(rt; reads_as(rt.alloc(), &types, bit, &[0x80], 0, Ok((1, &[0x80])))?);
+    assert!(rt; reads_as(rt.alloc(), &types, bit, &[0x80], 8, Err(8))?);
     Ok(())
 }
