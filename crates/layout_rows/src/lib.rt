@@ -1,0 +1,2 @@
+//! Rows of layouts.
+#![tactic(auto)]
