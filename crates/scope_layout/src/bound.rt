@@ -5,7 +5,7 @@ ghost use Rattle.scope_layout.specs.Layers.{layer_of, layer_path, within};
 
 use crate::layout::WitnessNames;
 use crate::names::{to_variable, to_witness};
-use crate::path::{Path, Step, drop_layers};
+use crate::path::{Route, Step, drop_layers};
 use hl_syntax::{HlType, Pattern};
 use std::alloc::{AllocError, Global};
 
@@ -31,7 +31,7 @@ pub(crate) fn to_bound(
     bound: &Bound,
     sort: Sort,
     name: &str,
-) -> Result<Option<Path>, AllocError>
+) -> Result<Option<Route>, AllocError>
     ensures { IfOk result (λ found. found ≡ layer_path sort name.now (layer_of bound.now)) }
 {
     match (sort, bound) {
@@ -47,16 +47,16 @@ pub(crate) fn to_layer(
     layers: &[Bound],
     sort: Sort,
     name: &str,
-) -> Result<Option<Path>, AllocError>
+) -> Result<Option<Route>, AllocError>
     ensures { IfOk result (λ found.
         found ≡ within (map (layer_path sort name.now) (reverse (map layer_of layers.now))) None) }
 {
     'layers: for depth in 0..layers.len() {
         let layer = &layers[layers.len() - 1 - depth];
-        if let Some(mut path) = to_bound(alloc, layer, sort, name)? {
-            path.precede(Step::Take)?;
-            drop_layers(&mut path, depth)?;
-            return Ok(Some(path));
+        if let Some(mut route) = to_bound(alloc, layer, sort, name)? {
+            route.precede(Step::Take)?;
+            drop_layers(&mut route, depth)?;
+            return Ok(Some(route));
         }
     }
     Ok(None)

@@ -6,7 +6,7 @@ ghost use Rattle.scope_layout.specs.Leads.{IsPath};
 ghost use Rattle.scope_layout.specs.declared.bound.Sort.TheVariants as sort;
 
 use crate::bound::{Bound, Sort, to_bound, to_layer};
-use crate::path::{Path, drop_layers};
+use crate::path::{Path, Route, drop_layers};
 use hl_syntax::{HlType, Pattern, TypedName};
 use lists::Sequence;
 use std::alloc::{AllocError, Global};
@@ -115,14 +115,23 @@ impl<'a> Layout<'a> {
     fn path_to(&self, sort: Sort, name: &str) -> Result<Option<Path>, AllocError>
         ensures { IfOk result (λ found. found ≡ path_of sort name.now self.now) }
     {
-        let alloc = *self.bound.allocator();
-        if let Some(path) = to_layer(alloc, self.bound.as_slice(), sort, name)? {
-            return Ok(Some(path));
+        match self.route_to(sort, name)? {
+            Some(route) => Ok(Some(route.into_path())),
+            None => Ok(None),
         }
-        let Some(mut path) = to_bound(alloc, &self.root, sort, name)? else {
+    }
+
+    fn route_to(&self, sort: Sort, name: &str) -> Result<Option<Route>, AllocError>
+        ensures { IfOk result (λ found. found ≡ path_of sort name.now self.now) }
+    {
+        let alloc = *self.bound.allocator();
+        if let Some(route) = to_layer(alloc, self.bound.as_slice(), sort, name)? {
+            return Ok(Some(route));
+        }
+        let Some(mut route) = to_bound(alloc, &self.root, sort, name)? else {
             return Ok(None);
         };
-        drop_layers(&mut path, self.bound.len())?;
-        Ok(Some(path))
+        drop_layers(&mut route, self.bound.len())?;
+        Ok(Some(route))
     }
 }

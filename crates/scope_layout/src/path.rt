@@ -5,6 +5,7 @@ ghost use Rattle.scope_layout.specs.Paths.{among};
 ghost use Rattle.scope_layout.specs.declared.path.Step.{Step};
 ghost use Rattle.scope_layout.specs.declared.path.Step.TheVariants as step;
 
+use lists::Sequence;
 use std::alloc::{AllocError, Global};
 use std::marker::Model;
 
@@ -18,27 +19,30 @@ pub enum Step {
 }
 
 /// The way from an input to one part of it: steps, the outermost first.
-#[derive(Debug, Drop)]
-pub struct Path {
+pub type Path = Sequence<Step>;
+
+/// A path while it is made, which contracts see as the list of its steps.
+#[derive(Drop)]
+pub(crate) struct Route {
     /// The outermost step last, so that a step goes before the others without moving them.
     back: Vec<Step>,
 }
 
-impl Model for Path {
+impl Model for Route {
     ghost use Rattle.std.specs.Prelude.{List, reverse};
     ghost use Rattle.scope_layout.specs.declared.path.Step.{Step};
 
     ghost Value = { List Step };
 
-    ghost view = { λ path. reverse path.back.items };
+    ghost view = { λ route. reverse route.back.items };
 }
 
-impl Path {
-    /// The path to the input itself, which takes no memory.
-    pub(crate) fn here(alloc: Global) -> Path
+impl Route {
+    /// No step, which takes no memory.
+    pub(crate) fn here(alloc: Global) -> Route
         ensures { result ≡ [] }
     {
-        Path {
+        Route {
             back: Vec::new(alloc),
         }
     }
@@ -51,48 +55,41 @@ impl Path {
         Ok(())
     }
 
-    /// The number of steps.
-    pub fn len(&self) -> usize
-        ensures { result ≡ length self.now }
+    /// The path, in the same memory.
+    pub(crate) fn into_path(self) -> Path
+        ensures { result ≡ self }
     {
-        self.back.len()
-    }
-
-    /// The steps, the outermost first, in the same memory.
-    pub fn into_vec(self) -> Vec<Step>
-        ensures { result.items ≡ self }
-    {
-        let Path { mut back } = self;
+        let Route { mut back } = self;
         back.reverse();
-        back
+        Path::from_vec(back)
     }
 }
 
-/// Puts so many drops before the steps of a path.
-pub(crate) fn drop_layers(path: &mut Path, count: usize) -> Result<(), AllocError>
-    ensures { OnOk result (path.new ≡ replicate count step.Drop ++ path.old) }
+/// Puts so many drops before the steps of a route.
+pub(crate) fn drop_layers(route: &mut Route, count: usize) -> Result<(), AllocError>
+    ensures { OnOk result (route.new ≡ replicate count step.Drop ++ route.old) }
 {
     'layers: for _ in 0..count {
-        path.precede(Step::Drop)?;
+        route.precede(Step::Drop)?;
     }
     Ok(())
 }
 
-/// Puts before a path the steps to a part, by its place among so many parts.
-pub(crate) fn descend(path: &mut Path, place: usize, count: usize) -> Result<(), AllocError>
+/// Puts before a route the steps to a part, by its place among so many parts.
+pub(crate) fn descend(route: &mut Route, place: usize, count: usize) -> Result<(), AllocError>
     requires { place < count }
     ensures { OnOk result ((rest : List (Option (List Step))) → place + suc (length rest) ≡ count →
-        among (replicate place None ++ Some path.old ∷ rest) ≡ Some path.new) }
+        among (replicate place None ++ Some route.old ∷ rest) ≡ Some route.new) }
 {
     if count == 1 {
         return Ok(());
     }
     let half = count / 2;
     if place < half {
-        descend(path, place, half)?;
-        path.precede(Step::Take)
+        descend(route, place, half)?;
+        route.precede(Step::Take)
     } else {
-        descend(path, place - half, count - half)?;
-        path.precede(Step::Drop)
+        descend(route, place - half, count - half)?;
+        route.precede(Step::Drop)
     }
 }

@@ -9,8 +9,8 @@ returns-in-Some c =
     let way = layer_path c.args.sort c.args.name.now in
     let ways = map way (reverse (map layer_of c.args.layers.now)) in
     ap Some (c.in_ok-drop_layers.ensures ∙ ap (λ p. replicate c.layers.depth step.Drop ++ p) c.in_ok-precede.ensures)
-    ∙ sym (at_layer ways c.layers.depth (within ways None) c.in-Some.path
-    (from_end way layer_of c.args.layers.now c.layers.depth c.index-layers-layers.result (omega (arith, c.layers-test.true)) c.index-layers-layers.is ∙ ap Some (sym c.in_ok-path.ensures ∙ c.in-Some.is))
+    ∙ sym (at_layer ways c.layers.depth (within ways None) c.in-Some.route
+    (from_end way layer_of c.args.layers.now c.layers.depth c.index-layers-layers.result (omega (arith, c.layers-test.true)) c.index-layers-layers.is ∙ ap Some (sym c.in_ok-route.ensures ∙ c.in-Some.is))
     c.layers.invariant)
 
 pub layers-preserved : goal.layers-preserved
@@ -18,5 +18,5 @@ layers-preserved c =
     let way = layer_path c.args.sort c.args.name.now in
     let ways = map way (reverse (map layer_of c.args.layers.now)) in
     past_layer ways c.layers.depth (within ways None)
-    (from_end way layer_of c.args.layers.now c.layers.depth c.index-layers-layers.result (omega (arith, c.layers-test.true)) c.index-layers-layers.is ∙ ap Some (sym c.in_ok-path.ensures ∙ c.in_default.is))
+    (from_end way layer_of c.args.layers.now c.layers.depth c.index-layers-layers.result (omega (arith, c.layers-test.true)) c.index-layers-layers.is ∙ ap Some (sym c.in_ok-route.ensures ∙ c.in_default.is))
     c.layers.invariant
