@@ -28,8 +28,8 @@ pub found_append : {A B : Type 0} (g : A → B) (test : A → Bool) (xs ys : Lis
 found_append g test [] ys = refl
 found_append g test (x ∷ xs) ys =
     elim (test x) as (λ b. option_map g (cond b (Some x) (find test (xs ++ ys))) ≡ first_of (option_map g (cond b (Some x) (find test xs))) (option_map g (find test ys))) [
-    | true ↦ refl
-    | false ↦ found_append g test xs ys
+      | true ↦ refl
+      | false ↦ found_append g test xs ys
     ]
 
 -- two parts

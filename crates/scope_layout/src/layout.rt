@@ -41,11 +41,7 @@ impl<'a> Layout<'a> {
     /// # Errors
     ///
     /// For want of memory.
-    pub fn new(
-        alloc: Global,
-        root: &'a Pattern,
-        kind: &'a HlType,
-    ) -> Result<Layout<'a>, AllocError>
+    pub fn new(alloc: Global, root: &'a Pattern, kind: &'a HlType) -> Result<Layout<'a>, AllocError>
         ensures { IfOk result (λ layout. layout ≡ record { root = Names root.now kind.now; bound = [] }) }
     {
         Ok(Layout {
