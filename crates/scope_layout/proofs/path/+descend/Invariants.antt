@@ -1,0 +1,4 @@
+use Rattle.scope_layout.proofs.path.+descend.Given as goal
+
+abbrev pub decreases-descend : goal.decreases-descend
+decreases-descend l = l.count

@@ -1,0 +1,5 @@
+pub mod Paths
+pub mod Layers
+pub mod Leads
+pub mod Laws
+pub mod Codes
