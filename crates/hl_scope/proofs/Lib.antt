@@ -4,3 +4,4 @@ pub mod Params
 pub mod Parts
 pub mod Rising
 pub mod Sounds
+pub mod Witnesses
