@@ -1,7 +1,7 @@
 pub mod Finds
+pub mod FirstPlaces
 pub mod Outer
 pub mod Params
 pub mod Parts
 pub mod Rising
 pub mod Sounds
-pub mod Witnesses

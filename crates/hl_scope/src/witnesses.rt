@@ -8,7 +8,7 @@ use hl_syntax::Wanted;
 use std::alloc::{AllocError, Global};
 
 /// Each witness at its first place alone.
-#[tactic(auto, using(crate::proofs::Witnesses::witness_past, crate::proofs::Witnesses::witness_next, crate::proofs::Witnesses::no_witness))]
+#[tactic(auto, using(crate::proofs::FirstPlaces::witness_past, crate::proofs::FirstPlaces::witness_next, crate::proofs::FirstPlaces::no_witness))]
 fn first_witnesses(alloc: Global, met: Wanted) -> Result<Wanted, AllocError>
     ensures { IfOk result (λ found. found ≡ first_witnesses [] met) }
 {

@@ -1,7 +1,7 @@
 use Rattle.std.proofs.Common.{◌≡◌, [], length}
 use Rattle.std.specs.Vec.Iter.{into_iter_items, into_iter_len}
 use Rattle.hl_rules.specs.Witnesses.{first_witnesses}
-use Rattle.hl_scope.proofs.Witnesses.{with_rest}
+use Rattle.hl_scope.proofs.FirstPlaces.{with_rest}
 use Rattle.hl_scope.proofs.witnesses.first_witnesses.Given as goal
 
 abbrev pub invariant-witnesses : goal.invariant-witnesses

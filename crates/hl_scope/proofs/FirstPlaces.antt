@@ -15,4 +15,4 @@ pub witness_next : (found rest : List TypedName) (witness : TypedName) → has_n
 witness_next found rest witness h = rw h (sym (append_assoc found (witness ∷ []) (first_witnesses (found ++ witness ∷ []) rest)))
 
 pub no_witness : (found : List TypedName) → with_rest found [] ≡ found
-no_witness found = append-nil
+no_witness found = append-nil found
