@@ -1,5 +1,5 @@
 -- Encodings by the layers of values and types, and answers taken apart.
-use Rattle.std.proofs.Common.{◌≡◌, ℕ, zero, suc, Bool, true, false, nat_eq, eqb-true, List, [], ◌∷◌, length, map, replicate, Option, Some, None, option_map, refl, sym, ap, ◌∙◌, subst, arith}
+use Rattle.std.proofs.Common.{◌≡◌, ℕ, zero, suc, Bool, true, false, nat_eq, eqb-true, List, [], ◌∷◌, length, map, replicate, Option, Some, None, option_map, refl, sym, ap, ◌∙◌}
 use Rattle.std.specs.Prelude.{if◌then◌else◌}
 use Rattle.std.proofs.lemmas.List.{length-map}
 use Rattle.hl_data.specs.declared.value.HlValue.{HlValue, map-HlValue}
@@ -12,7 +12,7 @@ use Rattle.hl_syntax.specs.declared.kinds.HlType.TheOpen.{HlType-F}
 use Rattle.hl_syntax.specs.declared.kinds.HlType.TheVariants as kind
 use Rattle.hl_syntax.specs.declared.kinds.HlType.TheViews.{out-HlType}
 use Rattle.hl_meaning.specs.Values.{Encoding, encoded, encode_step, encode_at, at_each, at_all, beside}
-use Rattle.simplicity.specs.Tuples.{tuple_kind, copies_kind, tuple_value}
+use Rattle.simplicity.specs.Tuples.{tuple_kind, tuple_value}
 use Rattle.simplicity.specs.Types.{Kind, Value}
 use Rattle.simplicityhl.specs.Kinds.{form, form_step}
 

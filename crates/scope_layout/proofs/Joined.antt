@@ -1,5 +1,5 @@
 -- What is said of two parts is said of the pair; and of many of their tuple.
-use Rattle.std.proofs.Common.{◌≡◌, ℕ, Bool, true, false, cond, List, [], ◌∷◌, ◌++◌, length, map, find, bytes_eq, Option, Some, None, option_map, refl, sym, ap, ◌∙◌, subst, append_assoc, append-nil}
+use Rattle.std.proofs.Common.{◌≡◌, Bool, true, false, cond, List, [], ◌∷◌, ◌++◌, length, map, find, Option, Some, None, option_map, refl, ap, ◌∙◌, subst}
 use Rattle.hl_data.specs.declared.value.HlValue.{HlValue}
 use Rattle.hl_syntax.specs.declared.kinds.HlType.{HlType}
 use Rattle.simplicity.specs.Tuples.{halves, tuple_kind, tuple_value}

@@ -1,5 +1,5 @@
 -- The paths to the names of patterns at their types.
-use Rattle.std.proofs.Common.{◌≡◌, ℕ, Bool, true, false, List, [], ◌∷◌, ◌++◌, map, replicate, bytes_eq, find, cond, Option, Some, None, option_map, refl, sym, ap, ◌∙◌, subst}
+use Rattle.std.proofs.Common.{◌≡◌, ℕ, Bool, true, false, List, [], ◌∷◌, ◌++◌, map, replicate, bytes_eq, cond, Option, Some, None, option_map, refl, sym, ap, ◌∙◌, subst}
 use Rattle.std.specs.Prelude.{if◌then◌else◌}
 use Rattle.hl_data.specs.declared.value.HlValue.{HlValue}
 use Rattle.hl_data.specs.declared.value.HlValue.TheOpen.{HlValue-F}
@@ -14,12 +14,12 @@ use Rattle.hl_syntax.specs.declared.tree.PatternForm.TheFolds.{fold-PatternForm,
 use Rattle.hl_syntax.specs.declared.tree.PatternForm.TheVariants as patterns
 use Rattle.hl_meaning.specs.Scopes as scopes
 use Rattle.hl_meaning.specs.Scopes.{Scope, Binding, Binder, meant, bound, each_bound}
-use Rattle.hl_meaning.specs.Values.{encoded, at_each, beside}
+use Rattle.hl_meaning.specs.Values.{encoded, at_each}
 use Rattle.hl_rules.specs.Places.{variable_type}
 use Rattle.hl_typing.specs.Patterns as rule
 use Rattle.hl_typing.specs.Patterns.{Matched, PatternAt, PatternsAt, Binds}
-use Rattle.simplicity.specs.Tuples.{tuple_kind, tuple_value}
-use Rattle.simplicity.specs.Types.{Kind, Value}
+use Rattle.simplicity.specs.Tuples.{tuple_kind}
+use Rattle.simplicity.specs.Types.{Value}
 use Rattle.simplicityhl.specs.Kinds.{form}
 use Rattle.scope_layout.specs.Paths.{Way, among, at_name, pattern_step, variable_path}
 use Rattle.scope_layout.specs.Leads as leads

@@ -1,5 +1,5 @@
 -- The steps to a part by its place among several.
-use Rattle.std.proofs.Common.{◌≡◌, Result, Ok, Err, OnOk, ℕ, zero, suc, ◌+◌, ◌-◌, ◌/◌, ◌<◌, ◌≤◌, List, [], ◌∷◌, ◌++◌, length, map, take, drop, replicate, Option, Some, None, refl, sym, ap, ◌∙◌, subst, arith, length-take, length-append, append-nil}
+use Rattle.std.proofs.Common.{◌≡◌, ℕ, zero, suc, ◌+◌, ◌-◌, ◌/◌, ◌<◌, ◌≤◌, List, [], ◌∷◌, ◌++◌, length, map, take, drop, replicate, Some, None, refl, sym, ap, ◌∙◌, subst, arith, length-take, length-append, append-nil}
 use Rattle.std.proofs.lemmas.List.{length-map, length-replicate, take-replicate, drop-replicate, drop_all}
 use Rattle.std.specs.Prelude.{slice_get}
 use Rattle.simplicity.specs.Tuples.{halves}
@@ -73,18 +73,26 @@ alone (suc place) p rest many = absurd (omega (arith, many))
 pub to_alone : (place count : ℕ) (p : List Step) → count ≡ 1 → Leads place count p p
 to_alone place count p one rest many = alone place p rest (many ∙ one)
 
-pub to_front : (place count : ℕ) (p q : List Step) → 1 < count → place < count / 2 → Leads place (count / 2) p q → Leads place count p (step.Take ∷ q)
-to_front place count p q some less leads rest many =
+in_front : (place count : ℕ) (p q : List Step) → 1 < count → place < count / 2 → Leads place (count / 2) p q → Leads place count p (step.Take ∷ q)
+in_front place count p q some less leads rest many =
     let f = front (count / 2) place p rest less (omega (arith, many, less)) in
     let there : among (take (count / 2) (first_at place p rest)) ≡ Some q = ap among f.is ∙ leads f.others f.many in
     in_halves place count p rest some many ∙ ap (λ o. in_either o (among (drop (count / 2) (first_at place p rest)))) there
 
-pub to_back : (place count : ℕ) (p q : List Step) → 1 < count → count / 2 ≤ place → Leads (place - count / 2) (count - count / 2) p q → Leads place count p (step.Drop ∷ q)
-to_back place count p q some past leads rest many =
+in_back : (place count : ℕ) (p q : List Step) → 1 < count → count / 2 ≤ place → Leads (place - count / 2) (count - count / 2) p q → Leads place count p (step.Drop ∷ q)
+in_back place count p q some past leads rest many =
     let h : ℕ = count / 2 in
     let nothing : among (take h (first_at place p rest)) ≡ None = ap among (before_back h place (Some p ∷ rest) past) ∙ none_among h in
     let there : among (drop h (first_at place p rest)) ≡ Some q = ap among (back h place (Some p ∷ rest) past) ∙ leads rest (omega (arith, many, past)) in
     in_halves place count p rest some many ∙ ap (λ o. in_either o (among (drop h (first_at place p rest)))) nothing ∙ ap (in_either None) there
+
+pub to_front : (place count half : ℕ) (p q r : List Step) → 1 < count → half ≡ count / 2 → place < half → Leads place half p q → r ≡ step.Take ∷ q → Leads place count p r
+to_front place count half p q r some is less leads precedes rest many =
+    in_front place count p q some (omega (arith, is, less)) (subst (λ h. Leads place h p q) is leads) rest many ∙ ap Some (sym precedes)
+
+pub to_back : (place count half : ℕ) (p q r : List Step) → 1 < count → half ≡ count / 2 → half ≤ place → Leads (place - half) (count - half) p q → r ≡ step.Drop ∷ q → Leads place count p r
+to_back place count half p q r some is past leads precedes rest many =
+    in_back place count p q some (omega (arith, is, past)) (subst (λ h. Leads (place - h) (count - h) p q) is leads) rest many ∙ ap Some (sym precedes)
 
 -- Parts one after the other, until one has what is looked for.
 
@@ -114,7 +122,3 @@ module _ {A : Type 0} (f : A → Way) (xs : List A) where
   pub found_nowhere : (n : ℕ) → length xs ≤ n → Passed f xs n → among (map f xs) ≡ None
   found_nowhere n few passed =
       ap among (passed ∙ ap (λ l. replicate n None ++ map f l) (drop_all n xs few) ∙ append-nil (replicate n None)) ∙ none_among n
-
-pub on_ok : {A E : Type 0} {P Q : Type 0} (r : Result A E) → (P → Q) → OnOk r P → OnOk r Q
-on_ok (Ok x) f h = f h
-on_ok (Err e) f h = tt

@@ -1,17 +1,16 @@
 -- The paths to the names of scopes.
-use Rattle.std.proofs.Common.{◌≡◌, ℕ, List, [], ◌∷◌, ◌++◌, map, Option, Some, None, Result, Ok, Err, IfOk, refl, sym, ap, ◌∙◌, subst}
+use Rattle.std.proofs.Common.{◌≡◌, ℕ, List, [], ◌∷◌, ◌++◌, map, Some, None, Result, Ok, Err, IfOk, sym, ap, ◌∙◌, subst}
 use Rattle.hl_data.specs.declared.value.HlValue.{HlValue}
 use Rattle.hl_syntax.specs.declared.kinds.HlType.{HlType}
 use Rattle.hl_syntax.specs.declared.kinds.TypedName.{TypedName}
-use Rattle.hl_meaning.specs.Mean.{named, scope_of}
+use Rattle.hl_meaning.specs.Mean.{named}
 use Rattle.hl_meaning.specs.Scopes.{Scope, meant, each_bound}
 use Rattle.hl_meaning.specs.Values.{encoded, at_each}
 use Rattle.hl_rules.specs.Places.{variable_type}
-use Rattle.simplicity.specs.Tuples.{tuple_kind, tuple_value}
-use Rattle.simplicity.specs.Types.{Kind, Value, Pair}
+use Rattle.simplicity.specs.Types.{Value, Pair}
 use Rattle.simplicityhl.specs.Kinds.{form}
-use Rattle.scope_layout.specs.Paths.{Way, in_either, at_name, witness_path}
-use Rattle.scope_layout.specs.Layers.{Layer, Scopes, layer_kind, layer_path, kind_within, within, path_of}
+use Rattle.scope_layout.specs.Paths.{Way, at_name}
+use Rattle.scope_layout.specs.Layers.{Layer, layer_kind, layer_path, kind_within, within}
 use Rattle.scope_layout.specs.Leads as leads
 use Rattle.scope_layout.specs.Leads.{LayerHas, Has, LayerHolds, Holds, IsTypedWay, LeadsTo, IsPath}
 use Rattle.scope_layout.specs.Laws.{PathsLead}

@@ -1,6 +1,6 @@
 -- Layers: what is bound at once; scopes: layers, the innermost first, before what the scope began with.
 -- The value of a scope is that of its innermost layer beside that of the rest (this project's own).
-use Rattle.std.specs.Prelude.{◌≡◌, ℕ, List, [], ◌∷◌, map, Option, Some, None}
+use Rattle.std.specs.Prelude.{◌≡◌, ℕ, List, [], ◌∷◌, map, None}
 use Rattle.hl_syntax.specs.declared.kinds.HlType.{HlType}
 use Rattle.hl_syntax.specs.declared.kinds.TypedName.{TypedName}
 use Rattle.hl_syntax.specs.declared.tree.Pattern.{Pattern}

@@ -1,6 +1,6 @@
 //! Paths, step by step.
 
-ghost use Rattle.std.specs.Prelude.{◌≡◌, [], ◌∷◌, ◌++◌, ◌<◌, ◌+◌, suc, length, replicate, reverse, List, Option, Some, None, OnOk};
+ghost use Rattle.std.specs.Prelude.{◌≡◌, [], ◌∷◌, ◌++◌, ◌<◌, ◌+◌, ◌/◌, suc, length, replicate, reverse, List, Option, Some, None, OnOk};
 ghost use Rattle.scope_layout.specs.Paths.{among};
 ghost use Rattle.scope_layout.specs.declared.path.Step.{Step};
 ghost use Rattle.scope_layout.specs.declared.path.Step.TheVariants as step;
@@ -75,6 +75,13 @@ pub(crate) fn drop_layers(route: &mut Route, count: usize) -> Result<(), AllocEr
     Ok(())
 }
 
+/// How many of several parts are in the first half: it is rounded down.
+fn first_half(count: usize) -> usize
+    ensures { result ≡ count / 2 }
+{
+    count / 2
+}
+
 /// Puts before a route the steps to a part, by its place among so many parts.
 pub(crate) fn descend(route: &mut Route, place: usize, count: usize) -> Result<(), AllocError>
     requires { place < count }
@@ -84,12 +91,14 @@ pub(crate) fn descend(route: &mut Route, place: usize, count: usize) -> Result<(
     if count == 1 {
         return Ok(());
     }
-    let half = count / 2;
+    let half = first_half(count);
     if place < half {
         descend(route, place, half)?;
-        route.precede(Step::Take)
+        route.precede(Step::Take)?;
+        Ok(())
     } else {
         descend(route, place - half, count - half)?;
-        route.precede(Step::Drop)
+        route.precede(Step::Drop)?;
+        Ok(())
     }
 }
