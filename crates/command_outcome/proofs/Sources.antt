@@ -1,7 +1,8 @@
 -- The answers to a source.
-use Rattle.std.proofs.Common.{◌≡◌, ℕ, ◌+◌, List, [], length, Ok, Err, refl, subst, codes, IsUtf8}
+use Rattle.std.proofs.Common.{◌≡◌, ℕ, ◌+◌, List, [], length, Ok, Err, refl, subst, IsUtf8}
 use Rattle.std.specs.Prelude.{Result}
 use Rattle.std.specs.Str.{IsValidUpTo}
+use Rattle.hl_syntax.specs.declared.rules.Limit.TheVariants.{L2}
 use Rattle.hl_syntax.specs.declared.token.Span.{Span}
 use Rattle.hl_syntax.specs.declared.token.Token.{Token}
 use Rattle.hl_syntax.specs.declared.tree.Item.{Item}
@@ -11,6 +12,7 @@ use Rattle.simplicityhl.specs.Tokens.{Refusal, tokens, bad_character, open_comme
 use Rattle.hl_lex.specs.declared.refusal.LexRefusal.{LexRefusal}
 use Rattle.hl_lex.specs.declared.refusal.LexRefusal.TheVariants as refusal
 use Rattle.hl_lex.specs.Lexes.{IsRefusalOf}
+use Rattle.command_outcome.specs.declared.names.SourceCause.TheVariants as causes
 use Rattle.command_outcome.specs.declared.status.Status.{Status}
 use Rattle.command_outcome.specs.declared.status.Status.TheVariants.{SourceRefused, LimitReached}
 use Rattle.command_outcome.specs.declared.stop.Stop.{Stop}
@@ -21,13 +23,13 @@ use Rattle.command_outcome.specs.Stops.{IsStop, Stops, IsTree, IsRead, IsUnlexed
 use Rattle.command_outcome.specs.Texts.{limit_line, source_line}
 use Rattle.command_outcome.proofs.Stopping.{refused, stops_in}
 
-pub no_text : (text : List ℕ) (at : ℕ) (stop : Stop) → IsValidUpTo text at → IsStop SourceRefused (source_line (codes "NotUtf8") at (at + 1)) stop → Stops (IsSource text (λ _. Never)) stop
+pub no_text : (text : List ℕ) (at : ℕ) (stop : Stop) → IsValidUpTo text at → IsStop SourceRefused (source_line causes.NotUtf8 at (at + 1)) stop → Stops (IsSource text (λ _. Never)) stop
 no_text text at stop valid is = refused (IsSource text (λ _. Never)) _ _ stop is (λ s o e r. not_utf8 at valid r)
 
-pub dead_tokens : (found : List Token) (end : ℕ) (at : Span) (stop : Stop) → IsSyntaxError program found end at → IsStop SourceRefused (source_line (codes "Syntax") at.start at.end) stop → Stops (IsParsed found end (λ _. Never)) stop
+pub dead_tokens : (found : List Token) (end : ℕ) (at : Span) (stop : Stop) → IsSyntaxError program found end at → IsStop SourceRefused (source_line causes.Syntax at.start at.end) stop → Stops (IsParsed found end (λ _. Never)) stop
 dead_tokens found end at stop dead is = refused (IsParsed found end (λ _. Never)) _ _ stop is (λ s o e r. syntax at dead r)
 
-pub deep_tokens : (found : List Token) (end : ℕ) (at : Span) (stop : Stop) → IsFirstDeep program found at → IsStop LimitReached (limit_line (codes "L2")) stop → Stops (IsParsed found end (λ _. Never)) stop
+pub deep_tokens : (found : List Token) (end : ℕ) (at : Span) (stop : Stop) → IsFirstDeep program found at → IsStop LimitReached (limit_line L2) stop → Stops (IsParsed found end (λ _. Never)) stop
 deep_tokens found end at stop deep is = refused (IsParsed found end (λ _. Never)) _ _ stop is (λ s o e r. too_deep at deep r)
 
 -- the first fault of a text's tokens, and what comes of its tokens

@@ -1,5 +1,7 @@
 pub mod Status
+pub mod Names
 pub mod Texts
 pub mod Answer
+pub mod Refusals
 pub mod Source
 pub mod Stops

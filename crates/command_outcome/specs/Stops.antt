@@ -1,9 +1,11 @@
 -- What the code answers before it writes.
-use Rattle.std.specs.Prelude.{◌≡◌, ℕ, List, [], Result, Ok, Err, codes, string_bytes}
+use Rattle.std.specs.Prelude.{◌≡◌, ℕ, List, [], Result, Ok, Err, string_bytes}
 use Rattle.std.specs.declared.string.String.{String}
+use Rattle.hl_syntax.specs.declared.rules.Limit.TheVariants.{L3}
 use Rattle.hl_syntax.specs.declared.token.Token.{Token}
 use Rattle.hl_syntax.specs.declared.tree.Item.{Item}
 use Rattle.simplicityhl.specs.Grammar.{Stands, most_depth, program}
+use Rattle.command_outcome.specs.declared.names.SourceCause.TheVariants as causes
 use Rattle.command_outcome.specs.declared.status.Status.{Status}
 use Rattle.command_outcome.specs.declared.status.Status.TheVariants.{Done, SourceRefused, LimitReached}
 use Rattle.command_outcome.specs.declared.stop.Stop.{Stop}
@@ -25,9 +27,9 @@ Stops A (Refused status line) = A status [] (string_bytes line)
 Stops A OutOfMemory = Unit {0}
 
 -- a text for `out`, or another status, is an answer, or memory was short
-abbrev pub Gives : {G : Type 0} → Answer → Result (String G) Stop → Type 0
-Gives A (Ok text) = A Done (string_bytes text) []
-Gives A (Err stop) = Stops A stop
+abbrev pub GivesLine : {G : Type 0} → Answer → Result (String G) Stop → Type 0
+GivesLine A (Ok text) = A Done (string_bytes text) []
+GivesLine A (Err stop) = Stops A stop
 
 -- the tree of tokens that are a program, in a text that ends there, or why they are none
 abbrev pub IsTree : List Token → ℕ → Result (List Item) Stop → Type 0
@@ -41,7 +43,7 @@ IsRead text (Err stop) = Stops (IsSource text (λ _. Never)) stop
 
 -- a fault of the tokens, or memory was short
 abbrev pub IsUnlexed : LexRefusal → Stop → Type 0
-IsUnlexed (refusal.BadCharacter span) stop = IsStop SourceRefused (source_line (codes "BadCharacter") span.start span.end) stop
-IsUnlexed (refusal.OpenComment span) stop = IsStop SourceRefused (source_line (codes "OpenComment") span.start span.end) stop
-IsUnlexed (refusal.LiteralTooLarge span) stop = IsStop LimitReached (limit_line (codes "L3")) stop
+IsUnlexed (refusal.BadCharacter span) stop = IsStop SourceRefused (source_line causes.BadCharacter span.start span.end) stop
+IsUnlexed (refusal.OpenComment span) stop = IsStop SourceRefused (source_line causes.OpenComment span.start span.end) stop
+IsUnlexed (refusal.LiteralTooLarge span) stop = IsStop LimitReached (limit_line L3) stop
 IsUnlexed refusal.OutOfMemory stop = stop ≡ OutOfMemory

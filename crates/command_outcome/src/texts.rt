@@ -2,10 +2,12 @@
 
 ghost use Rattle.std.specs.Prelude.{◌≡◌, IfOk, string_bytes};
 ghost use Rattle.command_outcome.specs.Stops.{IsStop};
-ghost use Rattle.command_outcome.specs.Texts.{words_line, read_line, limit_line, source_line, data_line, failed_line, value_line};
+ghost use Rattle.command_outcome.specs.Texts.{words_line, read_line, limit_line, source_line, data_line, failed_line, no_memory_line, value_line, write_line};
 
+use crate::names::{DataCause, SourceCause, limit_name};
 use crate::status::Status;
 use crate::stop::Stop;
+use hl_syntax::{Limit, Span};
 use std::alloc::{AllocError, Global};
 
 /// A word that doesn't fit.
@@ -34,11 +36,12 @@ pub fn unread_file(alloc: Global, file: &str) -> Stop
     }
 }
 
-/// A limit that is passed, as `L1`.
-pub fn passed_limit(alloc: Global, limit: &str) -> Stop
-    ensures { IsStop Status.LimitReached (limit_line limit.now) result }
+/// A limit that is passed.
+pub fn passed_limit(alloc: Global, limit: Limit) -> Stop
+    ensures { IsStop Status.LimitReached (limit_line limit) result }
 {
-    match format!(in alloc; "limit {limit}\n") {
+    let name = limit_name(limit);
+    match format!(in alloc; "limit {name}\n") {
         Ok(line) => Stop::Refused {
             status: Status::LimitReached,
             line,
@@ -47,11 +50,12 @@ pub fn passed_limit(alloc: Global, limit: &str) -> Stop
     }
 }
 
-/// A rule that the source breaks, from the byte at `start` up to that at `end`.
-pub fn broken_rule(alloc: Global, rule: &str, start: u128, end: u128) -> Stop
-    ensures { IsStop Status.SourceRefused (source_line rule.now start end) result }
+/// A source that is refused, from the byte at `start` up to that at `end`.
+pub fn refused_source(alloc: Global, cause: SourceCause, start: u128, end: u128) -> Stop
+    ensures { IsStop Status.SourceRefused (source_line cause start end) result }
 {
-    match format!(in alloc; "source {rule} at {start}..{end}\n") {
+    let name = cause.name();
+    match format!(in alloc; "source {name} at {start}..{end}\n") {
         Ok(line) => Stop::Refused {
             status: Status::SourceRefused,
             line,
@@ -60,10 +64,18 @@ pub fn broken_rule(alloc: Global, rule: &str, start: u128, end: u128) -> Stop
     }
 }
 
-/// What is wrong, as `NotJson`, with an entry, a file or a word of this name.
-pub fn refused_data(alloc: Global, kind: &str, name: &str) -> Stop
-    ensures { IsStop Status.DataRefused (data_line kind.now name.now) result }
+/// A source that is refused at a span.
+pub fn refused_span(alloc: Global, cause: SourceCause, span: Span) -> Stop
+    ensures { IsStop Status.SourceRefused (source_line cause span.start span.end) result }
 {
+    refused_source(alloc, cause, u128::from(span.start), u128::from(span.end))
+}
+
+/// What is wrong with an entry, a file or a word of this name.
+pub fn refused_data(alloc: Global, cause: DataCause, name: &str) -> Stop
+    ensures { IsStop Status.DataRefused (data_line cause name.now) result }
+{
+    let kind = cause.name();
     match format!(in alloc; "data {kind} {name}\n") {
         Ok(line) => Stop::Refused {
             status: Status::DataRefused,
@@ -91,4 +103,18 @@ pub fn value_text(alloc: Global, text: &str) -> Result<String, AllocError>
     ensures { IfOk result (λ line. string_bytes line ≡ value_line text.now) }
 {
     format!(in alloc; "value: {text}\n")
+}
+
+/// The line of a command that memory was short for.
+pub fn no_memory_line() -> &'static [u8]
+    ensures { result.now ≡ no_memory_line }
+{
+    b"no memory\n"
+}
+
+/// The line of a command whose text wasn't taken.
+pub fn write_line() -> &'static [u8]
+    ensures { result.now ≡ write_line }
+{
+    b"write\n"
 }
