@@ -1,16 +1,11 @@
 -- Refusals as answers.
-use Rattle.std.proofs.Common.{◌≡◌, ℕ, List, [], Result, Ok, Err, IsErrAnd, refl, sym, subst}
+use Rattle.std.proofs.Common.{◌≡◌, ℕ, List, Result, Ok, Err, IsErrAnd, sym, subst}
 use Rattle.std.specs.declared.string.String.{String}
 use Rattle.command_outcome.specs.declared.status.Status.{Status}
 use Rattle.command_outcome.specs.declared.stop.Stop.{Stop}
 use Rattle.command_outcome.specs.declared.stop.Stop.TheVariants.{Refused, OutOfMemory}
-use Rattle.command_outcome.specs.Answer.{Answer, IsRefusal}
-use Rattle.command_outcome.specs.Stops.{GivesLine, IsStop, Stops}
-
--- a refusal is an answer of a relation that has the refusal
-pub refused : (A : Answer) (status : Status) (line : List ℕ) (stop : Stop) → IsStop status line stop → ((s : Status) (o e : List ℕ) → IsRefusal status line s o e → A s o e) → Stops A stop
-refused A status line (Refused answer text) is has = has _ _ _ (record { status_is = is.0; nothing = refl; line_is = is.1 })
-refused A status line OutOfMemory is has = tt
+use Rattle.command_outcome.specs.Answer.{Answer}
+use Rattle.command_outcome.specs.Stops.{GivesLine, Stops}
 
 -- an answer of one relation is one of another that has all of its answers
 pub stops_in : (A B : Answer) (stop : Stop) → ((s : Status) (o e : List ℕ) → A s o e → B s o e) → Stops A stop → Stops B stop

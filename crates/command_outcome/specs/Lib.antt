@@ -5,3 +5,4 @@ pub mod Answer
 pub mod Refusals
 pub mod Source
 pub mod Stops
+pub mod Leads

@@ -3,7 +3,7 @@
 ghost use Rattle.std.specs.Prelude.{IfOk, IsUtf8, Ok, Err};
 ghost use Rattle.simplicityhl.specs.Tokens.{tokens};
 ghost use Rattle.hl_lex.specs.Lexes.{IsRefusalOf};
-ghost use Rattle.command_outcome.specs.Stops.{IsRead, IsTree, IsUnlexed};
+ghost use Rattle.command_outcome.specs.Stops.{IsRead, IsTree, IsUnlexed, Stops};
 
 use crate::names::SourceCause;
 use crate::stop::Stop;
@@ -56,7 +56,7 @@ fn read_tokens(alloc: Global, found: &[Token], end: u64) -> Result<Program, Stop
 
 /// A fault of the tokens.
 fn unlexed(alloc: Global, refusal: LexRefusal) -> Stop
-    ensures { IsUnlexed refusal result }
+    ensures { Stops (IsUnlexed refusal) result }
 {
     match refusal {
         LexRefusal::BadCharacter { span } => refused_span(alloc, SourceCause::BadCharacter, span),

@@ -1,8 +1,9 @@
 //! The lines that are written.
 
 ghost use Rattle.std.specs.Prelude.{◌≡◌, IfOk, string_bytes};
-ghost use Rattle.command_outcome.specs.Stops.{IsStop};
-ghost use Rattle.command_outcome.specs.Texts.{words_line, read_line, limit_line, source_line, data_line, failed_line, no_memory_line, value_line, write_line};
+ghost use Rattle.command_outcome.specs.Refusals.{IsBroken, IsData, IsFailure, IsMisfit, IsPassed, IsRefusedAt, IsUnreadable};
+ghost use Rattle.command_outcome.specs.Stops.{Stops};
+ghost use Rattle.command_outcome.specs.Texts.{no_memory_line, value_line, write_line};
 
 use crate::names::{DataCause, SourceCause, limit_name};
 use crate::status::Status;
@@ -12,7 +13,7 @@ use std::alloc::{AllocError, Global};
 
 /// A word that doesn't fit.
 pub fn refused_words(alloc: Global, index: usize) -> Stop
-    ensures { IsStop Status.WordsRefused (words_line index) result }
+    ensures { Stops (IsMisfit index) result }
 {
     match format!(in alloc; "words at {index}\n") {
         Ok(line) => Stop::Refused {
@@ -25,7 +26,7 @@ pub fn refused_words(alloc: Global, index: usize) -> Stop
 
 /// A file that isn't read.
 pub fn unread_file(alloc: Global, file: &str) -> Stop
-    ensures { IsStop Status.ReadFault (read_line file.now) result }
+    ensures { Stops (IsUnreadable file.now) result }
 {
     match format!(in alloc; "read {file}\n") {
         Ok(line) => Stop::Refused {
@@ -38,7 +39,7 @@ pub fn unread_file(alloc: Global, file: &str) -> Stop
 
 /// A limit that is passed.
 pub fn passed_limit(alloc: Global, limit: Limit) -> Stop
-    ensures { IsStop Status.LimitReached (limit_line limit) result }
+    ensures { Stops (IsPassed limit) result }
 {
     let name = limit_name(limit);
     match format!(in alloc; "limit {name}\n") {
@@ -52,7 +53,7 @@ pub fn passed_limit(alloc: Global, limit: Limit) -> Stop
 
 /// A source that is refused, from the byte at `start` up to that at `end`.
 pub fn refused_source(alloc: Global, cause: SourceCause, start: u128, end: u128) -> Stop
-    ensures { IsStop Status.SourceRefused (source_line cause start end) result }
+    ensures { Stops (IsRefusedAt cause start end) result }
 {
     let name = cause.name();
     match format!(in alloc; "source {name} at {start}..{end}\n") {
@@ -66,14 +67,14 @@ pub fn refused_source(alloc: Global, cause: SourceCause, start: u128, end: u128)
 
 /// A source that is refused at a span.
 pub fn refused_span(alloc: Global, cause: SourceCause, span: Span) -> Stop
-    ensures { IsStop Status.SourceRefused (source_line cause span.start span.end) result }
+    ensures { Stops (IsBroken cause span) result }
 {
     refused_source(alloc, cause, u128::from(span.start), u128::from(span.end))
 }
 
 /// What is wrong with an entry, a file or a word of this name.
 pub fn refused_data(alloc: Global, cause: DataCause, name: &str) -> Stop
-    ensures { IsStop Status.DataRefused (data_line cause name.now) result }
+    ensures { Stops (IsData cause name.now) result }
 {
     let kind = cause.name();
     match format!(in alloc; "data {kind} {name}\n") {
@@ -87,7 +88,7 @@ pub fn refused_data(alloc: Global, cause: DataCause, name: &str) -> Stop
 
 /// A program that fails.
 pub fn failed_program(alloc: Global) -> Stop
-    ensures { IsStop Status.ProgramFailed failed_line result }
+    ensures { Stops IsFailure result }
 {
     match String::from_str(alloc, "failed\n") {
         Ok(line) => Stop::Refused {
