@@ -1,3 +1,4 @@
 pub mod Stopping
 pub mod Sources
 pub mod OneSource
+pub mod Leading

@@ -1,5 +1,5 @@
 -- A source has one answer where its trees have one, and it is settled where theirs are.
-use Rattle.std.proofs.Common.{◌≡◌, ℕ, ◌+◌, ◌<◌, List, [], ◌∷◌, ◌++◌, length, Ok, Err, refl, sym, ap, ◌∙◌, arith, codes, IsUtf8, subst}
+use Rattle.std.proofs.Common.{◌≡◌, ℕ, ◌+◌, ◌<◌, List, [], ◌∷◌, ◌++◌, length, Ok, Err, refl, sym, ap, ◌∙◌, arith, IsUtf8, subst}
 use Rattle.std.proofs.Math.Seq.{take-length}
 use Rattle.std.proofs.lemmas.List.{append_assoc}
 use Rattle.std.specs.Str.{IsValidUpTo}
@@ -11,6 +11,7 @@ use Rattle.simplicityhl.specs.Tokens.{Fault, Lexed, tokens}
 use Rattle.simplicityhl.specs.Tokens as fault
 use Rattle.simplicityhl.specs.Viable.{IsFirstDeep, IsSyntaxError}
 use Rattle.hl_grammar.specs.Laws.{HasFronts, IsOne as IsOneTree}
+use Rattle.command_outcome.specs.declared.names.SourceCause.TheVariants as causes
 use Rattle.command_outcome.specs.declared.status.Status.{Status}
 use Rattle.command_outcome.specs.Answer.{Answer, Never, IsRefusal, IsDone, IsOneIn, IsSettled, AreSettled}
 use Rattle.command_outcome.specs.Source.{IsFault, IsParsed, IsLexed, IsSource, IsProgram, too_deep, syntax, parsed, not_utf8, is_text}
@@ -52,8 +53,8 @@ deep_dead ts end at dead f e = e.shallow (f.before ++ f.token ∷ []) f.after (f
 dead_tree : (ts : List Token) (end : ℕ) (at : token.Span) (tree : List Item) → IsSyntaxError program ts end at → Stands program most_depth ts tree → ⊥
 dead_tree ts end at tree e is = e.none tree (most_depth, is)
 
-same_place : (a b : token.Span) → a ≡ b → source_line (codes "Syntax") a.start a.end ≡ source_line (codes "Syntax") b.start b.end
-same_place a b same = ap (λ (at : token.Span). source_line (codes "Syntax") at.start at.end) same
+same_place : (a b : token.Span) → a ≡ b → source_line causes.Syntax a.start a.end ≡ source_line causes.Syntax b.start b.end
+same_place a b same = ap (λ (at : token.Span). source_line causes.Syntax at.start at.end) same
 
 one_parsed : (part : List ℕ → List ℕ) → HasFronts program → IsOneTree program → (Next : List Item → Answer) → ((tree : List Item) → IsOneIn part (Next tree)) → (found : List Token) (end : ℕ) → IsOneIn part (IsParsed found end Next)
 one_parsed part law one Next each found end s t o p e f (too_deep at d a) (too_deep at' d' b) = one_refusal part _ _ s t o p e f a b
@@ -92,7 +93,7 @@ one_front text i j a b =
 
 pub one_source : (part : List ℕ → List ℕ) → HasFronts program → IsOneTree program → (Next : List Item → Answer) → ((tree : List Item) → IsOneIn part (Next tree)) → (text : List ℕ) → IsOneIn part (IsSource text Next)
 one_source part law one Next each text s t o p e f (not_utf8 i valid a) (not_utf8 j valid' b) =
-    same_refusal part _ _ _ (ap (λ n. source_line (codes "NotUtf8") n (n + 1)) (one_front text i j valid valid')) s t o p e f a b
+    same_refusal part _ _ _ (ap (λ n. source_line causes.NotUtf8 n (n + 1)) (one_front text i j valid valid')) s t o p e f a b
 one_source part law one Next each text s t o p e f (not_utf8 i valid a) (is_text utf8 b) = absurd (no_longer text i valid utf8)
 one_source part law one Next each text s t o p e f (is_text utf8 a) (not_utf8 i valid b) = absurd (no_longer text i valid utf8)
 one_source part law one Next each text s t o p e f (is_text utf8 a) (is_text utf8' b) = one_lexed part law one Next each (tokens text) (length text) s t o p e f a b

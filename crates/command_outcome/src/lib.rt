@@ -2,14 +2,17 @@
 //! read, which every command on a source begins with.
 #![tactic(auto)]
 
+mod names;
 mod source;
 mod status;
 mod stop;
 mod texts;
 
+pub use names::{DataCause, SourceCause};
 pub use source::read_program;
 pub use status::Status;
 pub use stop::Stop;
 pub use texts::{
-    broken_rule, failed_program, passed_limit, refused_data, refused_words, unread_file, value_text,
+    failed_program, no_memory_line, passed_limit, refused_data, refused_source, refused_span,
+    refused_words, unread_file, value_text, write_line,
 };

@@ -3,15 +3,14 @@
 ghost use Rattle.std.specs.Prelude.{IfOk, IsUtf8, Ok, Err};
 ghost use Rattle.simplicityhl.specs.Tokens.{tokens};
 ghost use Rattle.hl_lex.specs.Lexes.{IsRefusalOf};
-ghost use Rattle.command_outcome.specs.Stops.{IsRead, IsTree, IsStop, IsUnlexed};
-ghost use Rattle.command_outcome.specs.Texts.{source_line};
+ghost use Rattle.command_outcome.specs.Stops.{IsRead, IsTree, IsUnlexed, Stops};
 
-use crate::status::Status;
+use crate::names::SourceCause;
 use crate::stop::Stop;
-use crate::texts::{broken_rule, passed_limit};
+use crate::texts::{passed_limit, refused_source, refused_span};
 use hl_lex::{LexRefusal, tokens};
 use hl_parse::{ParseRefusal, parse};
-use hl_syntax::{Program, Span, Token};
+use hl_syntax::{Limit, Program, Token};
 use std::alloc::Global;
 
 /// The tree of a source.
@@ -27,7 +26,7 @@ pub fn read_program(alloc: Global, source: &[u8]) -> Result<Program, Stop>
         Ok(text) => read_text(alloc, text),
         Err(error) => {
             let at = error.valid_up_to() as u128;
-            Err(broken_rule(alloc, "NotUtf8", at, at + 1))
+            Err(refused_source(alloc, SourceCause::NotUtf8, at, at + 1))
         }
     }
 }
@@ -49,27 +48,20 @@ fn read_tokens(alloc: Global, found: &[Token], end: u64) -> Result<Program, Stop
 {
     match parse(alloc, found, end) {
         Ok(program) => Ok(program),
-        Err(ParseRefusal::Syntax { at }) => Err(broken_span(alloc, "Syntax", at)),
-        Err(ParseRefusal::TooDeep { .. }) => Err(passed_limit(alloc, "L2")),
+        Err(ParseRefusal::Syntax { at }) => Err(refused_span(alloc, SourceCause::Syntax, at)),
+        Err(ParseRefusal::TooDeep { .. }) => Err(passed_limit(alloc, Limit::L2)),
         Err(ParseRefusal::OutOfMemory) => Err(Stop::OutOfMemory),
     }
 }
 
 /// A fault of the tokens.
 fn unlexed(alloc: Global, refusal: LexRefusal) -> Stop
-    ensures { IsUnlexed refusal result }
+    ensures { Stops (IsUnlexed refusal) result }
 {
     match refusal {
-        LexRefusal::BadCharacter { span } => broken_span(alloc, "BadCharacter", span),
-        LexRefusal::OpenComment { span } => broken_span(alloc, "OpenComment", span),
-        LexRefusal::LiteralTooLarge { .. } => passed_limit(alloc, "L3"),
+        LexRefusal::BadCharacter { span } => refused_span(alloc, SourceCause::BadCharacter, span),
+        LexRefusal::OpenComment { span } => refused_span(alloc, SourceCause::OpenComment, span),
+        LexRefusal::LiteralTooLarge { .. } => passed_limit(alloc, Limit::L3),
         LexRefusal::OutOfMemory => Stop::OutOfMemory,
     }
-}
-
-/// A rule that is broken at a span.
-fn broken_span(alloc: Global, rule: &str, span: Span) -> Stop
-    ensures { IsStop Status.SourceRefused (source_line rule.now span.start span.end) result }
-{
-    broken_rule(alloc, rule, u128::from(span.start), u128::from(span.end))
 }

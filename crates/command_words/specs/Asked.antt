@@ -6,7 +6,7 @@ use Rattle.command_words.specs.declared.words.EvalWords.{EvalWords}
 use Rattle.command_words.specs.Words.{Evaluation, Reading, BuildOf, EvalOf, Misfit}
 
 abbrev pub evaluation_of : EvalWords → Evaluation
-evaluation_of w = record { file = w.file.now; function = w.function.now; args = option_copied w.args; witness = option_copied w.witness; input = option_copied w.input }
+evaluation_of w = record { file = w.file.now; function = w.function.now; edition = w.edition; args = option_copied w.args; witness = option_copied w.witness; input = option_copied w.input }
 
 abbrev pub reading_of : Asked → Reading
 reading_of (asked.Build file function) = BuildOf file.now function.now

@@ -3,6 +3,7 @@ use Rattle.std.specs.Prelude.{ℕ, Bool, true, false, not, ◌&&◌, ◌==◌, n
 use Rattle.std.specs.List.{list_any, position_or_len, before_first, after_first}
 use Rattle.std.specs.Option.{option_map_or}
 use Rattle.small_source.specs.Names.{is_name}
+use Rattle.command_words.specs.Editions.{is_edition}
 use Rattle.command_words.specs.declared.key.Key.{Key}
 use Rattle.command_words.specs.declared.key.Key.TheVariants.{Function, Args, Witness, Edition, Input}
 
@@ -17,12 +18,12 @@ abbrev pub is_empty : List ℕ → Bool
 is_empty [] = true
 is_empty (byte ∷ bytes) = false
 
--- a function has a name, a file a name that isn't empty, the one edition is 1, and a value may be any text
+-- a function has a name, a file a name that isn't empty, an edition is 1 or 2, and a value may be any text
 abbrev pub takes : Key → List ℕ → Bool
 takes Function value = is_name value
 takes Args value = not (is_empty value)
 takes Witness value = not (is_empty value)
-takes Edition value = bytes_eq value (codes "1")
+takes Edition value = is_edition value
 takes Input value = true
 
 abbrev pub is_equals : ℕ → Bool

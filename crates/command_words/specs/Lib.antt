@@ -1,3 +1,4 @@
+pub mod Editions
 pub mod Keys
 pub mod Words
 pub mod Asked

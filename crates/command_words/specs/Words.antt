@@ -3,12 +3,15 @@ use Rattle.std.specs.Prelude.{ℕ, ◌+◌, List, [], ◌∷◌, Option, Some, N
 use Rattle.std.specs.declared.string.String.{String}
 use Rattle.command_words.specs.declared.key.Key.{Key}
 use Rattle.command_words.specs.declared.key.Key.TheVariants.{Function, Args, Witness, Edition, Input}
+use Rattle.command_words.specs.declared.edition.Edition as editions
+use Rattle.command_words.specs.Editions.{edition_in}
 use Rattle.command_words.specs.Keys.{first_misfit, value_of}
 
--- an evaluation that is asked for: the file of the source, the function, and what is named or given besides
+-- an evaluation that is asked for: the file of the source, the function, the edition, and what is named or given besides
 pub record Evaluation : Type 0 where
   pub file : List ℕ
   pub function : List ℕ
+  pub edition : editions.Edition
   pub args : Option (List ℕ)
   pub witness : Option (List ℕ)
   pub input : Option (List ℕ)
@@ -33,11 +36,12 @@ build_reading file words = building file (value_of Function words)
 abbrev pub eval_keys : List Key
 eval_keys = Function ∷ Args ∷ Witness ∷ Edition ∷ Input ∷ []
 
--- the function is `main` where none is named
+-- the function is `main` and the edition the first where none is named
 abbrev pub eval_reading : List ℕ → List (List ℕ) → Reading
 eval_reading file words = EvalOf (record {
   file = file;
   function = unwrap_or (value_of Function words) (codes "main");
+  edition = edition_in (value_of Edition words);
   args = value_of Args words;
   witness = value_of Witness words;
   input = value_of Input words;

@@ -16,7 +16,7 @@ pub enum Key {
     Args,
     /// `wit`, the file of the witnesses' entries.
     Witness,
-    /// `edition`, of which there is one, `1`.
+    /// `edition`, `1` or `2`.
     Edition,
     /// `input`, the value of the argument.
     Input,
@@ -44,7 +44,7 @@ impl Key {
             Key::Function => is_name(value.as_bytes()),
             Key::Args => !value.is_empty(),
             Key::Witness => !value.is_empty(),
-            Key::Edition => value == "1",
+            Key::Edition => value == "1" || value == "2",
             Key::Input => true,
         }
     }

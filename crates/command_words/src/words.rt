@@ -4,6 +4,7 @@ ghost use Rattle.std.specs.Prelude.{◌≡◌, ◌+◌, ◌^◌, ◌<◌, length
 ghost use Rattle.command_words.specs.Asked.{reading_of};
 ghost use Rattle.command_words.specs.Words.{reading, texts, command_reading, build_keys, build_reading, eval_keys, eval_reading};
 
+use crate::edition::{Edition, edition_in};
 use crate::key::{Key, first_misfit, value_of};
 
 /// An evaluation that is asked for.
@@ -13,6 +14,8 @@ pub struct EvalWords<'a> {
     pub file: &'a str,
     /// The function, `main` where none is named.
     pub function: &'a str,
+    /// The edition of the language, the first where none is named.
+    pub edition: Edition,
     /// The file of the parameters' entries.
     pub args: Option<&'a str>,
     /// The file of the witnesses' entries.
@@ -90,6 +93,7 @@ fn read_eval<'a>(words: &'a [String]) -> Asked<'a>
     Asked::Eval(EvalWords {
         file: file.as_str(),
         function: value_of(Key::Function, rest).unwrap_or("main"),
+        edition: edition_in(value_of(Key::Edition, rest)),
         args: value_of(Key::Args, rest),
         witness: value_of(Key::Witness, rest),
         input: value_of(Key::Input, rest),

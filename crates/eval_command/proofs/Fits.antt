@@ -1,5 +1,5 @@
 -- The calls of an evaluation fit the program.
-use Rattle.std.proofs.Common.{◌≡◌, ℕ, zero, suc, true, false, ◌||◌, List, [], ◌∷◌, map, cond, bytes_eq, Option, Some, None, Result, Ok, Err, refl, sym, ap, ◌∙◌, subst, IsTrue, arith, if◌then◌else◌}
+use Rattle.std.proofs.Common.{◌≡◌, ℕ, zero, suc, true, false, ◌||◌, List, [], ◌∷◌, map, cond, bytes_eq, Option, Some, None, refl, sym, ap, ◌∙◌, subst, IsTrue, arith, if◌then◌else◌}
 use Rattle.std.specs.List.{All}
 use Rattle.std.specs.Option.{option_copied}
 use denote.Bor.{Bor}
@@ -9,45 +9,22 @@ use Rattle.hl_data.specs.declared.value.Entry.{Entry}
 use Rattle.hl_data.specs.declared.value.HlValue.{HlValue}
 use Rattle.hl_syntax.specs.declared.kinds.HlType.{HlType}
 use Rattle.hl_syntax.specs.declared.kinds.TypedName.{TypedName}
-use Rattle.hl_syntax.specs.declared.rules.Rule.TheVariants.{K20}
-use Rattle.hl_syntax.specs.declared.tree.Item.{Item}
-use Rattle.simplicityhl.specs.Written.{Broken}
 use Rattle.hl_eval.specs.Bindings.{bindings_of}
 use Rattle.hl_meaning.specs.Entries.{AreValued, IsValued}
 use Rattle.hl_files.specs.Reads.{typed_name}
 use Rattle.hl_meaning.specs.Scopes.{Binding}
 use Rattle.hl_rules.specs.Declared.{has_function}
 use Rattle.hl_rules.specs.Places.{is_main, has_name}
-use Rattle.hl_rules.specs.Programs.{Checked, checked, checked_of, program_walk, items_walk}
-use Rattle.hl_rules.specs.Steps.{needs}
-use Rattle.hl_rules.specs.Walks as walks
-use Rattle.hl_typed.specs.Typed.{BreaksNothing}
+use Rattle.hl_rules.specs.Programs.{Checked}
 use Rattle.hl_typing.specs.Patterns.{Once}
 use Rattle.hl_progress.specs.Calls.{FitsCall, argument_type, function_of}
 use Rattle.hl_meaning.specs.Entries.{IsValueOf}
 use Rattle.hl_progress.specs.Held.{HasValue}
 use Rattle.hl_typing.proofs.Every.{Every, every_of}
 use Rattle.hl_typing.proofs.Once.{neither, other_way}
-use Rattle.hl_progress.proofs.Programs.{witnesses_once}
-use Rattle.hl_typing.proofs.Steps.{ran, ok_same, needs_ok}
-use Rattle.eval_command.specs.Evaluation.{wanted}
+use Rattle.checked_source.specs.Steps.{wanted}
 
 -- The function that was asked for is there.
-
-pub asked_there : (source : List Item) (asked : List ℕ) (entries : List Entry) (end : ℕ) (program : Checked) → checked source asked entries end ≡ Ok program → IsTrue (has_function program.functions asked)
-unfolding checked
-asked_there source asked entries end program h = walked (program_walk source asked entries end []) refl h
-  where
-    walked : (w : Result (List TypedFunction × List TypedName) Broken) → program_walk source asked entries end [] ≡ w → checked_of w ≡ Ok program → IsTrue (has_function program.functions asked)
-    walked (Err broken) is e = absurd (cc)
-    walked (Ok found) is e =
-        let a = ran (items_walk entries (record { aliases = []; functions = [] }) source []) _ found is in
-        let b = ran (walks.needs (has_function a.from.0.functions asked) K20 (record { start = end; end = end }) a.from.1) _ found a.is in
-        let c = ran (needs (has_function a.from.0.functions asked) K20 (record { start = end; end = end })) _ b.from b.was in
-        let there : IsTrue (has_function a.from.0.functions asked) = needs_ok (has_function a.from.0.functions asked) K20 (record { start = end; end = end }) c.from c.was in
-        let same : a.from.0.functions ≡ found.0 = ap (λ p. p.0) (ok_same b.is) in
-        let made : ◌≡◌ {A = Checked} (record { functions = found.0; witnesses = found.1 }) program = ok_same e in
-        subst (λ fs. IsTrue (has_function fs asked)) (same ∙ ap (λ (p : Checked). p.functions) made) there
 
 not_missing : (functions : List TypedFunction) (name : List ℕ) → IsTrue (has_function functions name) → function_of functions name ≡ None → ⊥
 not_missing [] name there none = absurd (cc)
@@ -84,12 +61,12 @@ have_values (e ∷ entries) once valued =
     let first : HasValue (one ∷ bindings_of entries) (typed_name e) = record { value = e.value; is = rw ((bytes_eq-Decides e.name e.name).1 refl) refl; fits = valued.0.value } in
     (first, all_later (bindings_of entries) one (map typed_name entries) once.0 (have_values entries once.1 valued.1))
 
-pub witnesses_valued : (program : Checked) (name : List ℕ) (names : List TypedName) (entries : List Entry) → BreaksNothing program → names ≡ wanted name program → AreValued entries → map typed_name entries ≡ names →
+pub witnesses_valued : (program : Checked) (name : List ℕ) (names : List TypedName) (entries : List Entry) → Once program.witnesses → names ≡ wanted name program → AreValued entries → map typed_name entries ≡ names →
     IsTrue (is_main name) → All (HasValue (bindings_of entries)) program.witnesses
-witnesses_valued program name names entries b asked valued are main =
+witnesses_valued program name names entries alone asked valued are main =
     let wanted_are : wanted name program ≡ program.witnesses = ap (λ t. if t then program.witnesses else []) main in
     let same : program.witnesses ≡ map typed_name entries = sym (are ∙ asked ∙ wanted_are) in
-    let once : Once (map typed_name entries) = subst Once same (witnesses_once b.program b.asked b.entries b.end program b.is b.valued) in
+    let once : Once (map typed_name entries) = subst Once same alone in
     subst (All (HasValue (bindings_of entries))) (sym same) (all_of (HasValue (bindings_of entries)) (map typed_name entries) (have_values entries once (every_of IsValued entries valued)))
 
 -- The call.

@@ -1,33 +1,26 @@
 -- An evaluation has one answer, which is settled.
-use Rattle.std.proofs.Common.{◌≡◌, ◌≢◌, ℕ, List, length, Option, Some, None, Result, Ok, Err, sym, ap, ◌∙◌, subst}
+use Rattle.std.proofs.Common.{◌≡◌, ℕ, List, Option, Some, None, Ok, sym, ap, ◌∙◌, subst}
 use Rattle.hl_data.specs.declared.typed.TypedFunction.{TypedFunction}
 use Rattle.hl_data.specs.declared.value.Entry.{Entry}
 use Rattle.hl_data.specs.declared.value.HlValue.{HlValue}
 use Rattle.hl_eval.specs.Bindings.{bindings_of}
-use Rattle.hl_files.specs.Params.{param_names}
-use Rattle.hl_files.specs.declared.refusal.TextRefusal.{TextRefusal}
-use Rattle.hl_files.specs.declared.refusal.TextRefusal.TheVariants as text_refusal
-use Rattle.hl_files.specs.declared.refusal.WantedRefusal.{WantedRefusal}
-use Rattle.hl_files.specs.declared.refusal.WantedRefusal.TheVariants as wanted_refusal
+use Rattle.hl_files.specs.Reads.{IsOneReading, IsOneWantedReading}
+use Rattle.hl_grammar.specs.Laws.{HasFronts, IsOne as IsOneTree}
 use Rattle.hl_meaning.specs.Answer as meanings
 use Rattle.hl_meaning.specs.Mean.{meaning}
 use Rattle.hl_progress.specs.Calls.{argument_type, function_of}
-use Rattle.hl_rules.specs.Programs.{Checked, checked}
+use Rattle.hl_rules.specs.Programs.{Checked}
 use Rattle.hl_syntax.specs.declared.kinds.HlType.{HlType}
-use Rattle.hl_syntax.specs.declared.kinds.TypedName.{TypedName}
-use Rattle.hl_syntax.specs.declared.tree.Item.{Item}
-use Rattle.hl_files.specs.Reads.{IsOneReading, IsOneWantedReading}
-use Rattle.hl_grammar.specs.Laws.{HasFronts, IsOne as IsOneTree}
 use Rattle.hl_values.specs.Reads.{IsNoValueText}
 use Rattle.hl_values.specs.Written.{IsValueText, written}
 use Rattle.simplicityhl.specs.Grammar as grammar
 use Rattle.simplicityhl.specs.Grammar.{Stands, most_depth}
 use Rattle.simplicityhl.specs.Tokens.{Lexed}
-use Rattle.simplicityhl.specs.Written.{Broken, breaks_rule, breaks_limit}
-use Rattle.command_outcome.specs.declared.status.Status.{Status}
+use Rattle.checked_source.specs.Steps.{object_of, wanted}
+use Rattle.checked_source.proofs.One.{one_checked, one_witnesses, settled_checked, settled_witnesses}
 use Rattle.command_outcome.specs.Answer.{Answer, IsOneWhole, AreSettled}
-use Rattle.command_outcome.proofs.OneSource.{one_source, one_refusal, one_done, settled_refusal, settled_done, settled_source}
-use Rattle.eval_command.specs.Evaluation.{Given, AfterArgs, AfterMeaning, AfterRules, AfterWitnesses, IsArgs, IsArgument, IsArgumentOf, IsWitnesses, FromArgs, FromRules, FromWitnesses, FromArgument, IsEvaluation, object_of, wanted, missing, no_value, empty, value_text}
+use Rattle.command_outcome.proofs.OneSource.{one_refusal, one_done, settled_refusal, settled_done}
+use Rattle.eval_command.specs.Evaluation.{Given, AfterMeaning, IsArgument, IsArgumentOf, FromArgument, FromWitnesses, IsEvaluation, missing, no_value, empty, value_text}
 use Rattle.eval_command.specs.Law.{EvaluationIsOne}
 
 settled_meaning : (answer : meanings.Answer HlValue) → AreSettled (AfterMeaning answer)
@@ -45,42 +38,15 @@ settled_argument_of : (Next : HlValue → Answer) → ((v : HlValue) → AreSett
 settled_argument_of Next each None input s o e a = absurd a
 settled_argument_of Next each (Some f) input s o e a = settled_argument Next each (argument_type f.params) input s o e a
 
-settled_witnesses : (Next : List Entry → Answer) → ((es : List Entry) → AreSettled (Next es)) → (found : Result (List Entry) WantedRefusal) → AreSettled (AfterWitnesses Next found)
-settled_witnesses Next each (Ok es) s o e a = each es s o e a
-settled_witnesses Next each (Err wanted_refusal.NotJson) s o e a = settled_refusal _ _ tt s o e a
-settled_witnesses Next each (Err (wanted_refusal.Missing name)) s o e a = settled_refusal _ _ tt s o e a
-settled_witnesses Next each (Err (wanted_refusal.BadEntry name)) s o e a = settled_refusal _ _ tt s o e a
-settled_witnesses Next each (Err (wanted_refusal.TypeDiffers name)) s o e a = settled_refusal _ _ tt s o e a
-settled_witnesses Next each (Err (wanted_refusal.BadValue name)) s o e a = settled_refusal _ _ tt s o e a
-settled_witnesses Next each (Err wanted_refusal.OutOfMemory) s o e a = absurd a
-
-settled_rules : (Next : Checked → Answer) → ((p : Checked) → AreSettled (Next p)) → (found : Result Checked Broken) → AreSettled (AfterRules Next found)
-settled_rules Next each (Ok p) s o e a = each p s o e a
-settled_rules Next each (Err (breaks_rule rule span)) s o e a = settled_refusal _ _ tt s o e a
-settled_rules Next each (Err (breaks_limit limit span)) s o e a = settled_refusal _ _ tt s o e a
-
-settled_args : (Next : List Entry → Answer) → ((es : List Entry) → AreSettled (Next es)) → (found : Result (List Entry) TextRefusal) → AreSettled (AfterArgs Next found)
-settled_args Next each (Ok es) s o e a = each es s o e a
-settled_args Next each (Err text_refusal.NotJson) s o e a = settled_refusal _ _ tt s o e a
-settled_args Next each (Err (text_refusal.BadEntry name)) s o e a = settled_refusal _ _ tt s o e a
-settled_args Next each (Err (text_refusal.BadValue name)) s o e a = settled_refusal _ _ tt s o e a
-settled_args Next each (Err text_refusal.OutOfMemory) s o e a = absurd a
-
 settled_from_argument : (given : Given) (program : Checked) (witness : List Entry) → AreSettled (FromArgument given program witness)
 settled_from_argument given program witness s o e a =
-    settled_argument_of (λ argument. AfterMeaning (meaning program.functions given.function (bindings_of witness) argument)) (λ v. settled_meaning (meaning program.functions given.function (bindings_of witness) v)) (function_of program.functions given.function) given.input s o e a
+    settled_argument_of (λ argument. AfterMeaning (meaning program.functions given.asked.function (bindings_of witness) argument)) (λ v. settled_meaning (meaning program.functions given.asked.function (bindings_of witness) v)) (function_of program.functions given.asked.function) given.input s o e a
 
 settled_from_witnesses : (given : Given) (program : Checked) → AreSettled (FromWitnesses given program)
-settled_from_witnesses given program s o e a = settled_witnesses (FromArgument given program) (settled_from_argument given program) a.found s o e a.answer
-
-settled_from_rules : (given : Given) (end : ℕ) (tree : List Item) (params : List Entry) → AreSettled (FromRules given end tree params)
-settled_from_rules given end tree params s o e a = settled_rules (FromWitnesses given) (settled_from_witnesses given) (checked tree given.function params end) s o e a
-
-settled_from_args : (given : Given) (end : ℕ) (tree : List Item) → AreSettled (FromArgs given end tree)
-settled_from_args given end tree s o e a = settled_args (FromRules given end tree) (settled_from_rules given end tree) a.found s o e a.answer
+settled_from_witnesses given program s o e a = settled_witnesses (FromArgument given program) (settled_from_argument given program) (object_of given.witness) (wanted given.asked.function program) s o e a
 
 pub settled_evaluation : (given : Given) (text : List ℕ) → AreSettled (IsEvaluation given text)
-settled_evaluation given text s o e a = settled_source (FromArgs given (length text)) (settled_from_args given (length text)) text s o e a
+settled_evaluation given text s o e a = settled_checked (FromWitnesses given) (settled_from_witnesses given) given.asked text s o e a
 
 -- all of a text
 abbrev whole : List ℕ → List ℕ
@@ -129,45 +95,14 @@ one_argument_of : IsOneTree grammar.value → (Next : HlValue → Answer) → ((
 one_argument_of one Next each None input s t o p e f a b = absurd a
 one_argument_of one Next each (Some g) input s t o p e f a b = one_argument one Next each (argument_type g.params) input s t o p e f a b
 
-one_after_witnesses : (Next : List Entry → Answer) → ((es : List Entry) → IsOneWhole (Next es)) → (found : Result (List Entry) WantedRefusal) → IsOneWhole (AfterWitnesses Next found)
-one_after_witnesses Next each (Ok es) s t o p e f a b = each es s t o p e f a b
-one_after_witnesses Next each (Err wanted_refusal.NotJson) s t o p e f a b = one_refusal whole _ _ s t o p e f a b
-one_after_witnesses Next each (Err (wanted_refusal.Missing name)) s t o p e f a b = one_refusal whole _ _ s t o p e f a b
-one_after_witnesses Next each (Err (wanted_refusal.BadEntry name)) s t o p e f a b = one_refusal whole _ _ s t o p e f a b
-one_after_witnesses Next each (Err (wanted_refusal.TypeDiffers name)) s t o p e f a b = one_refusal whole _ _ s t o p e f a b
-one_after_witnesses Next each (Err (wanted_refusal.BadValue name)) s t o p e f a b = one_refusal whole _ _ s t o p e f a b
-one_after_witnesses Next each (Err wanted_refusal.OutOfMemory) s t o p e f a b = absurd a
+one_from_argument : IsOneTree grammar.value → (given : Given) (program : Checked) (witness : List Entry) → IsOneWhole (FromArgument given program witness)
+one_from_argument value given program witness s t o p e f a b =
+    one_argument_of value (λ argument. AfterMeaning (meaning program.functions given.asked.function (bindings_of witness) argument)) (λ argument. one_meaning (meaning program.functions given.asked.function (bindings_of witness) argument)) (function_of program.functions given.asked.function) given.input s t o p e f a b
 
-witnesses_answered : (Next : List Entry → Answer) (found : Result (List Entry) WantedRefusal) (s : Status) (o e : List ℕ) → AfterWitnesses Next found s o e → found ≢ Err wanted_refusal.OutOfMemory
-witnesses_answered Next found s o e a is = let never : AfterWitnesses Next (Err wanted_refusal.OutOfMemory) s o e = subst (λ r. AfterWitnesses Next r s o e) is a in never
-
-one_witnesses : IsOneWantedReading → (file : List ℕ) (names : List TypedName) (Next : List Entry → Answer) → ((es : List Entry) → IsOneWhole (Next es)) → IsOneWhole (IsWitnesses file names Next)
-one_witnesses law file names Next each s t o p e f a b =
-    let same : b.found ≡ a.found = law file names b.found a.found b.read a.read (witnesses_answered Next b.found t p f b.answer) (witnesses_answered Next a.found s o e a.answer) in
-    one_after_witnesses Next each a.found s t o p e f a.answer (subst (λ r. AfterWitnesses Next r t p f) same b.answer)
-
-one_rules : (Next : Checked → Answer) → ((p : Checked) → IsOneWhole (Next p)) → (found : Result Checked Broken) → IsOneWhole (AfterRules Next found)
-one_rules Next each (Ok program) s t o p e f a b = each program s t o p e f a b
-one_rules Next each (Err (breaks_rule rule span)) s t o p e f a b = one_refusal whole _ _ s t o p e f a b
-one_rules Next each (Err (breaks_limit limit span)) s t o p e f a b = one_refusal whole _ _ s t o p e f a b
-
-one_after_args : (Next : List Entry → Answer) → ((es : List Entry) → IsOneWhole (Next es)) → (found : Result (List Entry) TextRefusal) → IsOneWhole (AfterArgs Next found)
-one_after_args Next each (Ok es) s t o p e f a b = each es s t o p e f a b
-one_after_args Next each (Err text_refusal.NotJson) s t o p e f a b = one_refusal whole _ _ s t o p e f a b
-one_after_args Next each (Err (text_refusal.BadEntry name)) s t o p e f a b = one_refusal whole _ _ s t o p e f a b
-one_after_args Next each (Err (text_refusal.BadValue name)) s t o p e f a b = one_refusal whole _ _ s t o p e f a b
-one_after_args Next each (Err text_refusal.OutOfMemory) s t o p e f a b = absurd a
-
-args_answered : (Next : List Entry → Answer) (found : Result (List Entry) TextRefusal) (s : Status) (o e : List ℕ) → AfterArgs Next found s o e → found ≢ Err text_refusal.OutOfMemory
-args_answered Next found s o e a is = let never : AfterArgs Next (Err text_refusal.OutOfMemory) s o e = subst (λ r. AfterArgs Next r s o e) is a in never
-
-one_args : IsOneReading → (file : List ℕ) (names : List (List ℕ)) (Next : List Entry → Answer) → ((es : List Entry) → IsOneWhole (Next es)) → IsOneWhole (IsArgs file names Next)
-one_args law file names Next each s t o p e f a b =
-    let same : b.found ≡ a.found = law file names b.found a.found b.read a.read (args_answered Next b.found t p f b.answer) (args_answered Next a.found s o e a.answer) in
-    one_after_args Next each a.found s t o p e f a.answer (subst (λ r. AfterArgs Next r t p f) same b.answer)
+one_from_witnesses : IsOneTree grammar.value → IsOneWantedReading → (given : Given) (program : Checked) → IsOneWhole (FromWitnesses given program)
+one_from_witnesses value reading given program s t o p e f a b =
+    one_witnesses whole reading (object_of given.witness) (wanted given.asked.function program) (FromArgument given program) (one_from_argument value given program) s t o p e f a b
 
 pub one_evaluation : IsOneTree grammar.program → HasFronts grammar.program → IsOneTree grammar.value → IsOneReading → IsOneWantedReading → EvaluationIsOne
 one_evaluation tree law value reading wanted_reading given text s t o p e f a b =
-    one_source whole law tree (FromArgs given (length text)) (λ program. one_args reading (object_of given.args) (param_names program) (FromRules given (length text) program) (λ params. one_rules (FromWitnesses given) (λ typed. one_witnesses wanted_reading (object_of given.witness) (wanted given.function typed) (FromArgument given typed) (λ witness.
-    one_argument_of value (λ argument. AfterMeaning (meaning typed.functions given.function (bindings_of witness) argument)) (λ argument. one_meaning (meaning typed.functions given.function (bindings_of witness) argument)) (function_of typed.functions given.function) given.input))
-    (checked program given.function params (length text)))) text s t o p e f a b
+    one_checked whole tree law reading (FromWitnesses given) (one_from_witnesses value wanted_reading given) given.asked text s t o p e f a b

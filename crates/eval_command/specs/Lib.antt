@@ -1,4 +1,3 @@
-pub mod Names
 pub mod Evaluation
 pub mod Parts
 pub mod Law

@@ -6,9 +6,10 @@ ghost use Rattle.hl_progress.specs.Calls.{argument_type};
 ghost use Rattle.hl_meaning.specs.Entries.{IsValueOf};
 ghost use Rattle.hl_rules.specs.Same.{unit_type};
 ghost use Rattle.simplicityhl.specs.Kinds.{IsSound};
-ghost use Rattle.eval_command.specs.Parts.{IsArgumentRead};
+ghost use Rattle.command_outcome.specs.Leads.{Leads};
+ghost use Rattle.eval_command.specs.Evaluation.{IsArgument};
 
-use command_outcome::{Stop, refused_data};
+use command_outcome::{DataCause, Stop, refused_data};
 use hl_data::{HlValue, HlValues};
 use hl_syntax::{HlType, HlTypes, TypedName};
 use hl_types::copy_type;
@@ -50,18 +51,18 @@ fn is_unit(kind: &HlType) -> bool
 /// The argument of a type from its text, where one is given.
 pub fn read_argument(alloc: Global, kind: &HlType, input: Option<&str>) -> Result<HlValue, Stop>
     requires { IsSound kind.now }
-    ensures read { IsArgumentRead kind.now (option_copied input.entry) result }
+    ensures read { Leads (IsArgument kind.now (option_copied input.entry)) result }
     ensures of_kind { IfOk result (λ argument. IsValueOf argument kind.now) }
 {
     let Some(text) = input else {
         if is_unit(kind) {
             return Ok(HlValue::Tuple(HlValues::new(alloc)));
         }
-        return Err(refused_data(alloc, "Missing", "input"));
+        return Err(refused_data(alloc, DataCause::Missing, "input"));
     };
     match read_value(alloc, text, kind) {
         Ok(value) => Ok(value),
-        Err(ValueRefusal::NotValue) => Err(refused_data(alloc, "NotValue", "input")),
+        Err(ValueRefusal::NotValue) => Err(refused_data(alloc, DataCause::NotValue, "input")),
         Err(ValueRefusal::OutOfMemory) => Err(Stop::OutOfMemory),
     }
 }

@@ -5,8 +5,6 @@
 mod argument;
 mod evaluation;
 mod laws;
-mod names;
-mod refusals;
 
-pub use evaluation::{GivenFiles, evaluate_source};
+pub use evaluation::{GivenWords, evaluate_source};
 pub use laws::one_evaluation_law;

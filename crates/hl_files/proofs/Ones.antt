@@ -22,7 +22,7 @@ use Rattle.hl_files.specs.Objects.{IsObject}
 use Rattle.hl_files.specs.Reads.{AtName, FindsAt, WantedAt, IsOneReading, IsOneWantedReading}
 use Rattle.hl_files.specs.Turns.{Always, InTurn}
 use Rattle.hl_files.proofs.Turning.{one_in_turn}
-use Rattle.hl_files.proofs.Typing.{one_type_text}
+use Rattle.hl_type_texts.proofs.Typing.{one_type_text}
 
 -- a text is a value text of a type for one value at most
 one_value : (text : List ℕ) (kind : HlType) (v w : HlValue) → IsValueText text kind v → IsValueText text kind w → v ≡ w

@@ -1,27 +1,12 @@
 -- Entries of data files: `{"value": "TEXT", "type": "TEXT"}`, whatever further members there are.
-use Rattle.std.specs.Prelude.{◌≡◌, ◌≢◌, ℕ, List, [], Some, Ok, codes}
+use Rattle.std.specs.Prelude.{◌≡◌, ◌≢◌, ℕ, List, Some, codes}
 use Rattle.hl_data.specs.declared.value.HlValue.{HlValue}
 use Rattle.hl_syntax.specs.declared.kinds.HlType.{HlType}
-use Rattle.hl_syntax.specs.declared.token.Token.{Token}
-use Rattle.hl_syntax.specs.declared.tree.TypeText.{TypeText}
 use Rattle.serde_json.specs.Data.{Data}
 use Rattle.hl_files.specs.Objects.{text_at}
+use Rattle.hl_type_texts.specs.Texts.{IsTypeText}
 use Rattle.hl_values.specs.Reads.{IsNoValueText}
 use Rattle.hl_values.specs.Written.{IsValueText}
-use Rattle.simplicityhl.specs.Grammar as grammar
-use Rattle.simplicityhl.specs.Grammar.{Stands, most_depth}
-use Rattle.simplicityhl.specs.Kinds.{IsSound}
-use Rattle.simplicityhl.specs.Tokens.{tokens}
-use Rattle.simplicityhl.specs.Written.{walk}
-
--- the text is a type text, for the type: its tokens are a type of the grammar, nowhere nested too deep, which without aliases
--- stands for the type and breaks nothing
-pub record IsTypeText (text : List ℕ) (kind : HlType) : Type 0 where
-  pub found : List Token
-  pub tree : TypeText
-  pub lexed : tokens text ≡ Ok found
-  pub stands : Stands grammar.type most_depth found tree
-  pub walked : walk [] tree ≡ Ok kind
 
 -- an entry with a type, and with the text of its value
 pub record IsTyped (entry : Data) (kind : HlType) (text : List ℕ) : Type 0 where

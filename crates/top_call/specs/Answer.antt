@@ -1,5 +1,5 @@
 -- What an answer of the top call says: of its outcome, of reads, of faults and of memory.
-use Rattle.std.specs.Prelude.{◌≡◌, ◌⊎◌, ℕ, zero, suc, ◌≤◌, List, [], ◌∷◌, ◌++◌, length, slice_get, Option, Some, None, IsSome}
+use Rattle.std.specs.Prelude.{◌≡◌, ◌⊎◌, ℕ, zero, suc, ◌≤◌, List, [], ◌∷◌, length, map, slice_get, Option, Some, None, IsSome}
 use Rattle.outside.specs.Counts.{raised, HasRisen}
 use Rattle.outside.specs.Files.{Held, StoreState}
 use Rattle.outside.specs.Sink.{SinkState, Gained, GainedFront}
@@ -7,53 +7,41 @@ use Rattle.command_outcome.specs.declared.status.Status.{Status}
 use Rattle.command_outcome.specs.declared.status.Status.TheVariants.{Done, ReadFault, WriteFault, NoMemory}
 use Rattle.command_outcome.specs.Answer.{IsRefusal}
 use Rattle.command_outcome.specs.Texts.{read_line, no_memory_line, write_line}
-use Rattle.command_words.specs.Words.{Evaluation, Reading, BuildOf, EvalOf, Misfit}
-use Rattle.top_call.specs.Outcome.{Contents, IsOutcome, reads_of}
+use Rattle.command_outcome.specs.Refusals.{IsUnreadable}
+use Rattle.command_words.specs.Words.{Reading}
+use Rattle.top_call.specs.Files.{Contents, File, files_of}
+use Rattle.top_call.specs.Outcome.{IsOutcome, reads_of}
 
 -- what a named file holds: what is told, and where nothing is told some bytes
 abbrev pub Holds : Held → List ℕ → Option (List ℕ) → Type 0
 Holds (Some file_of) name file = file_of name ≡ file
 Holds None name file = IsSome file
 
-abbrev pub HoldsAny : Held → Option (List ℕ) → Option (List ℕ) → Type 0
-HoldsAny held None file = Unit {0}
-HoldsAny held (Some name) file = Holds held name file
-
-pub record HoldEach (held : Held) (asked : Evaluation) (files : Contents) : Type 0 where
-  pub source : Holds held asked.file files.source
-  pub args : HoldsAny held asked.args files.args
-  pub witness : HoldsAny held asked.witness files.witness
-
-abbrev pub HoldNamed : Held → Reading → Contents → Type 0
-HoldNamed held (BuildOf file asked) files = Holds held file files.source
-HoldNamed held (EvalOf asked) files = HoldEach held asked files
-HoldNamed held (Misfit index) files = Unit {0}
-
--- the files that the words name, in the order in which they are read
-abbrev pub if_named : Option (List ℕ) → List (List ℕ)
-if_named None = []
-if_named (Some name) = name ∷ []
-
-abbrev pub files_of : Reading → List (List ℕ)
-files_of (BuildOf file asked) = file ∷ []
-files_of (EvalOf asked) = asked.file ∷ (if_named asked.args ++ if_named asked.witness)
-files_of (Misfit index) = []
+-- and what each of some files holds
+abbrev pub HoldEach : Held → List File → Contents → Type 0
+HoldEach held [] [] = Unit {0}
+HoldEach held (file ∷ files) (content ∷ contents) = Holds held file.name content × HoldEach held files contents
+HoldEach held files contents = ⊥
 
 -- a count of reads after so many more
 abbrev pub raises : ℕ → ℕ → ℕ
 raises zero count = count
 raises (suc more) count = raised (raises more count)
 
--- of the files that the words name so many were read, each once, the first ones
-pub record HasRead (reading : Reading) (before after : StoreState) : Type 0 where
+-- of these files so many were read, each once, the first ones
+pub record HasReadOf (files : List File) (before after : StoreState) : Type 0 where
   pub count : ℕ
-  pub within : count ≤ length (files_of reading)
+  pub within : count ≤ length files
   pub are : after.reads ≡ raises count before.reads
+
+-- of the files that the words name
+abbrev pub HasRead : Reading → StoreState → StoreState → Type 0
+HasRead reading before after = HasReadOf (files_of reading) before after
 
 -- the file is the last that was read of those that the words name
 pub record IsLastRead (reading : Reading) (before after : StoreState) (file : List ℕ) : Type 0 where
   pub place : ℕ
-  pub named : slice_get (files_of reading) place ≡ Some file
+  pub named : slice_get (map (λ f. f.name) (files_of reading)) place ≡ Some file
   pub read : after.reads ≡ raises (suc place) before.reads
 
 -- a read fault names the last file that was read
@@ -64,8 +52,8 @@ NamesRead reading before after status err = Unit {0}
 -- by what the store held before and by its counts after, a status with its texts may be answered: they are the outcome's, and as many
 -- files were read as it reads; or the last read failed; or memory was short
 pub data IsAllowed (reading : Reading) (before after : StoreState) (status : Status) (out err : List ℕ) : Type 0 where
-  outcome : (files : Contents) → HoldNamed before.held reading files → IsOutcome reading files status out err → after.reads ≡ raises (reads_of reading files) before.reads → NamesRead reading before after status err → IsAllowed reading before after status out err
-  read_fault : (file : List ℕ) → IsLastRead reading before after file → HasRisen before.faults after.faults → IsRefusal ReadFault (read_line file) status out err → IsAllowed reading before after status out err
+  outcome : (contents : Contents) → HoldEach before.held (files_of reading) contents → IsOutcome reading contents status out err → after.reads ≡ raises (reads_of reading contents) before.reads → NamesRead reading before after status err → IsAllowed reading before after status out err
+  read_fault : (file : List ℕ) → IsLastRead reading before after file → HasRisen before.faults after.faults → IsUnreadable file status out err → IsAllowed reading before after status out err
   no_memory : IsRefusal NoMemory no_memory_line status out err → IsAllowed reading before after status out err
 
 -- the sink gained this text and no fault was counted

@@ -1,49 +1,57 @@
--- What the code answers before it writes.
-use Rattle.std.specs.Prelude.{◌≡◌, ◌⊎◌, ℕ, ◌≤◌, List, length, Option, Some, None, Result, Ok, Err, codes}
+-- What the code takes, and what it answers before it writes.
+use Rattle.std.specs.Prelude.{◌≡◌, ◌⊎◌, ℕ, suc, ◌≤◌, List, [], ◌∷◌, length, map, slice_get, take, Option, Some, Result, Ok, Err}
 use Rattle.std.specs.declared.vec.Vec.{Vec}
-use Rattle.outside.specs.Counts.{raised, HasRisen}
+use Rattle.outside.specs.Counts.{HasRisen}
 use Rattle.outside.specs.Files.{Held, StoreState}
 use Rattle.outside.specs.Sink.{SinkState}
 use Rattle.command_outcome.specs.declared.status.Status.{Status}
-use Rattle.command_outcome.specs.declared.status.Status.TheVariants.{Done, ReadFault, WriteFault}
+use Rattle.command_outcome.specs.declared.status.Status.TheVariants.{Done, WriteFault}
 use Rattle.command_outcome.specs.declared.stop.Stop.{Stop}
-use Rattle.command_outcome.specs.declared.stop.Stop.TheVariants.{OutOfMemory}
-use Rattle.command_outcome.specs.Answer.{Never, IsRefusal}
+use Rattle.command_outcome.specs.Answer.{Never}
+use Rattle.command_outcome.specs.Refusals.{IsUnreadable}
 use Rattle.command_outcome.specs.Stops.{Stops}
-use Rattle.command_outcome.specs.Texts.{read_line, write_line}
-use Rattle.top_call.specs.Answer.{Holds, Took, Failed, TookOrFailed}
-use Rattle.top_call.specs.Outcome.{IsFileRead, most_data}
+use Rattle.command_outcome.specs.Texts.{write_line}
+use Rattle.top_call.specs.declared.files.NamedFile.{NamedFile}
+use Rattle.top_call.specs.Answer.{Holds, Took, Failed, TookOrFailed, raises}
+use Rattle.top_call.specs.Files.{File, IsFileRead}
+
+abbrev pub file_of : NamedFile → File
+file_of file = record { name = file.name.now; most = file.most; limit = file.limit }
 
 -- a file isn't read: a fault was counted, or it isn't held or is too long
-pub data IsUnread (held : Held) (name : List ℕ) (most : ℕ) (limit : List ℕ) (faults faults_after : ℕ) (status : Status) (out err : List ℕ) : Type 0 where
-  fault : HasRisen faults faults_after → IsRefusal ReadFault (read_line name) status out err → IsUnread held name most limit faults faults_after status out err
-  refused : (file : Option (List ℕ)) → Holds held name file → IsFileRead name most limit (λ _. Never) file status out err → IsUnread held name most limit faults faults_after status out err
-
--- the bytes of a file, or why it isn't read
-abbrev pub IsFileOf : {G : Type 0} → Held → List ℕ → ℕ → List ℕ → ℕ → ℕ → Result (Vec ℕ G) Stop → Type 0
-IsFileOf held name most limit faults faults_after (Ok bytes) = Holds held name (Some bytes.items) × (length bytes.items ≤ most)
-IsFileOf held name most limit faults faults_after (Err stop) = Stops (IsUnread held name most limit faults faults_after) stop
-
--- the bytes of a data file where one is named, or why it isn't read
-abbrev pub IsDataOf : {G : Type 0} → Held → Option (List ℕ) → ℕ → ℕ → Result (Option (Vec ℕ G)) Stop → Type 0
-IsDataOf held None faults faults_after (Ok file) = file ≡ None
-IsDataOf held (Some name) faults faults_after (Ok None) = ⊥
-IsDataOf held (Some name) faults faults_after (Ok (Some bytes)) = Holds held name (Some bytes.items) × (length bytes.items ≤ most_data)
-IsDataOf held None faults faults_after (Err stop) = stop ≡ OutOfMemory
-IsDataOf held (Some name) faults faults_after (Err stop) = Stops (IsUnread held name most_data (codes "L10") faults faults_after) stop
+pub data IsUnread (held : Held) (file : File) (faults faults_after : ℕ) (status : Status) (out err : List ℕ) : Type 0 where
+  fault : HasRisen faults faults_after → IsUnreadable file.name status out err → IsUnread held file faults faults_after status out err
+  refused : (content : Option (List ℕ)) → Holds held file.name content → IsFileRead file content (λ _. Never) status out err → IsUnread held file faults faults_after status out err
 
 -- a file, or why it isn't read, from a store before and after
-abbrev pub IsFileFrom : {G : Type 0} → StoreState → StoreState → List ℕ → ℕ → List ℕ → Result (Vec ℕ G) Stop → Type 0
-IsFileFrom before after name most limit result = IsFileOf before.held name most limit before.faults after.faults result
+abbrev pub IsFileFrom : {G : Type 0} → StoreState → StoreState → File → Result (Vec ℕ G) Stop → Type 0
+IsFileFrom before after file (Ok bytes) = Holds before.held file.name (Some bytes.items) × (length bytes.items ≤ file.most)
+IsFileFrom before after file (Err stop) = Stops (IsUnread before.held file before.faults after.faults) stop
 
--- a data file, or why it isn't read, from a store before and after
-abbrev pub IsDataFrom : {G : Type 0} → StoreState → StoreState → Option (List ℕ) → Result (Option (Vec ℕ G)) Stop → Type 0
-IsDataFrom before after name result = IsDataOf before.held name before.faults after.faults result
+-- files that were read whole
+abbrev pub WereRead : Held → List File → List (List ℕ) → Type 0
+WereRead held [] [] = Unit {0}
+WereRead held (file ∷ files) (bytes ∷ found) = (Holds held file.name (Some bytes) × (length bytes ≤ file.most)) × WereRead held files found
+WereRead held files found = ⊥
 
--- a named data file is one more read
-abbrev pub ReadsAny : Option (List ℕ) → ℕ → ℕ → Type 0
-ReadsAny None before after = after ≡ before
-ReadsAny (Some name) before after = after ≡ raised before
+-- one of some files isn't read, after those before it were
+pub record IsFirstUnread (files : List File) (before after : StoreState) (status : Status) (out err : List ℕ) : Type 0 where
+  pub place : ℕ
+  pub file : File
+  pub there : slice_get files place ≡ Some file
+  pub found : List (List ℕ)
+  pub were : WereRead before.held (take place files) found
+  pub reads : after.reads ≡ raises (suc place) before.reads
+  pub unread : IsUnread before.held file before.faults after.faults status out err
+
+-- the bytes of files that were read
+abbrev pub texts_of : {G : Type 0} → List (Vec ℕ G) → List (List ℕ)
+texts_of found = map (λ v. v.items) found
+
+-- files, or why the first of them isn't read that isn't
+abbrev pub AreReadFrom : {G : Type 0} → StoreState → StoreState → List File → Result (Vec (Vec ℕ G) G) Stop → Type 0
+AreReadFrom before after files (Ok found) = WereRead before.held files (texts_of found.items) × (after.reads ≡ raises (length files) before.reads)
+AreReadFrom before after files (Err stop) = Stops (IsFirstUnread files before after) stop
 
 -- a text was put: the status stands where the sink took it, and is WriteFault where it failed
 abbrev pub IsPut : Status → SinkState → SinkState → List ℕ → Status → Type 0

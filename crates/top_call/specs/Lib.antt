@@ -1,4 +1,5 @@
 pub mod Build
+pub mod Files
 pub mod Outcome
 pub mod Answer
 pub mod Built

@@ -1,7 +1,7 @@
 //! The line of the program of a small source.
 
 ghost use Rattle.std.specs.Prelude.{◌≡◌, IfOk};
-ghost use Rattle.command_outcome.specs.Stops.{Gives};
+ghost use Rattle.command_outcome.specs.Stops.{GivesLine};
 ghost use Rattle.top_call.specs.Built.{IsBuilt, IsBuiltOf};
 ghost use Rattle.top_call.specs.Outcome.{IsBuildOutcome, IsSmallOutcome};
 ghost use Rattle.small_source.specs.View.{small_of};
@@ -9,7 +9,8 @@ ghost use Rattle.small_terms.specs.Compiled.{IsModest};
 
 use base64::engine::general_purpose::STANDARD;
 use bit_codec::write_program;
-use command_outcome::{Stop, broken_rule, read_program};
+use command_outcome::{SourceCause, Stop, read_program, refused_source};
+use hl_syntax::Rule;
 use small_source::{SmallFunction, SmallRefusal, read_small};
 use small_terms::{BuildRefusal, build_small};
 use std::alloc::{AllocError, Global};
@@ -31,7 +32,7 @@ enum Built {
 ///
 /// The source is refused, or is no small source for the asked name, or a name is unknown.
 pub fn build_source(alloc: Global, source: &[u8], function: &str) -> Result<String, Stop>
-    ensures { Gives (IsBuildOutcome function.now source.now) result }
+    ensures { GivesLine (IsBuildOutcome function.now source.now) result }
 {
     read_program(alloc, source)?;
     build_program(alloc, source, function.as_bytes())
@@ -39,15 +40,20 @@ pub fn build_source(alloc: Global, source: &[u8], function: &str) -> Result<Stri
 
 /// The line of a function of a source that is a program.
 fn build_program(alloc: Global, source: &[u8], function: &[u8]) -> Result<String, Stop>
-    ensures { Gives (IsSmallOutcome source.now function.now) result }
+    ensures { GivesLine (IsSmallOutcome source.now function.now) result }
 {
     match build(alloc, source, function)? {
         Built::Line(line) => Ok(line),
         Built::UnknownName { start, length } => {
             let start = start as u128;
-            Err(broken_rule(alloc, "K4", start, start + length as u128))
+            Err(refused_source(
+                alloc,
+                SourceCause::Broken(Rule::K4),
+                start,
+                start + length as u128,
+            ))
         }
-        Built::NotSmall => Err(broken_rule(alloc, "NotYet", 0, 0)),
+        Built::NotSmall => Err(refused_source(alloc, SourceCause::NotYet, 0, 0)),
     }
 }
 

@@ -1,76 +1,120 @@
 //! What a command answers, before it is written.
 
-ghost use Rattle.std.specs.Prelude.{◌≡◌, ◌≤◌};
-ghost use Rattle.command_outcome.specs.Stops.{Gives};
-ghost use Rattle.command_words.specs.Asked.{evaluation_of};
-ghost use Rattle.command_words.specs.Words.{BuildOf, EvalOf, reading, texts};
+ghost use Rattle.std.specs.Prelude.{◌≡◌, ◌≤◌, ◌<◌, IfOk, length, map};
+ghost use Rattle.std.specs.Option.{option_copied};
+ghost use Rattle.command_outcome.specs.Stops.{GivesLine};
+ghost use Rattle.command_words.specs.Asked.{evaluation_of, reading_of};
+ghost use Rattle.command_words.specs.Words.{reading, texts};
 ghost use Rattle.top_call.specs.Answer.{HasRead, IsAllowed};
-ghost use Rattle.top_call.specs.Outcome.{EvalOutcomeIsOne, OutcomeIsOne};
+ghost use Rattle.top_call.specs.Answered.{file_of, texts_of};
+ghost use Rattle.top_call.specs.Files.{after_named, files_of, next_named};
+ghost use Rattle.top_call.specs.Outcome.{AfterFiles, EvalOutcomeIsOne, IsEvalOutcome, OutcomeIsOne};
 
 use crate::build::build_source;
-use crate::files::{lent, read_data, read_file};
+use crate::files::{NamedFile, read_files};
+use checked_source::AskedSource;
 use command_outcome::{Stop, refused_words};
 use command_words::{Asked, EvalWords, read_words};
-use eval_command::{GivenFiles, evaluate_source, one_evaluation_law};
+use eval_command::{GivenWords, evaluate_source, one_evaluation_law};
 use hl_grammar::{one_program_law, program_fronts_law};
 use outside::Files;
-use std::alloc::Global;
-
-/// The greatest source, in bytes.
-const MOST_SOURCE: u64 = 262_144;
+use std::alloc::{AllocError, Global};
 
 /// The text of a command for `out`, or why there is none.
 pub fn compose<F: Files>(alloc: Global, words: &[String], files: &mut F) -> Result<String, Stop>
     ensures held { (F.state files.new).held ≡ (F.state files.old).held }
     ensures reads { HasRead (reading (texts words.now)) (F.state files.old) (F.state files.new) }
     ensures never_fall { (F.state files.old).faults ≤ (F.state files.new).faults }
-    ensures allowed { Gives (IsAllowed (reading (texts words.now)) (F.state files.old) (F.state files.new)) result }
+    ensures allowed { GivesLine (IsAllowed (reading (texts words.now)) (F.state files.old) (F.state files.new)) result }
 {
-    match read_words(words) {
-        Asked::Build { file, function } => compose_build(alloc, files, file, function),
-        Asked::Eval(asked) => compose_eval(alloc, files, asked),
+    compose_asked(alloc, read_words(words), files)
+}
+
+/// The text of what is asked for: the files are read in their order, and then it is answered.
+fn compose_asked<F: Files>(
+    alloc: Global,
+    asked: Asked<'_>,
+    files: &mut F,
+) -> Result<String, Stop>
+    ensures held { (F.state files.new).held ≡ (F.state files.old).held }
+    ensures reads { HasRead (reading_of asked.entry) (F.state files.old) (F.state files.new) }
+    ensures never_fall { (F.state files.old).faults ≤ (F.state files.new).faults }
+    ensures allowed { GivesLine (IsAllowed (reading_of asked.entry) (F.state files.old) (F.state files.new)) result }
+{
+    let Ok(named) = named_files(alloc, asked) else {
+        return Err(Stop::OutOfMemory);
+    };
+    match read_files(alloc, files, named.as_slice()) {
+        Ok(found) => answer(alloc, asked, found.as_slice()),
+        Err(stop) => Err(stop),
+    }
+}
+
+/// The files that are named, in the order in which they are read.
+fn named_files<'a>(alloc: Global, asked: Asked<'a>) -> Result<Vec<NamedFile<'a>>, AllocError>
+    ensures { IfOk result (λ named. map file_of named.items ≡ files_of (reading_of asked.entry)) }
+{
+    let mut named = Vec::new(alloc);
+    match asked {
+        Asked::Build { file, .. } => named.push(NamedFile::source(file))?,
+        Asked::Eval(asked) => {
+            named.push(NamedFile::source(asked.file))?;
+            if let Some(args) = asked.args {
+                named.push(NamedFile::data(args))?;
+            }
+            if let Some(witness) = asked.witness {
+                named.push(NamedFile::data(witness))?;
+            }
+        }
+        Asked::Misfit(_) => (),
+    }
+    Ok(named)
+}
+
+/// The text of what is asked for, from the bytes of the files that are named.
+fn answer(alloc: Global, asked: Asked<'_>, found: &[Vec<u8>]) -> Result<String, Stop>
+    requires { length found.now ≡ length (files_of (reading_of asked)) }
+    ensures { GivesLine (AfterFiles (reading_of asked.entry) (texts_of found.now)) result }
+{
+    match asked {
+        Asked::Build { function, .. } => build_source(alloc, found[0].as_slice(), function),
+        Asked::Eval(asked) => evaluate(alloc, asked, found[0].as_slice(), &found[1..]),
         Asked::Misfit(index) => Err(refused_words(alloc, index)),
     }
 }
 
-/// Builds a function of the source in a file.
-fn compose_build<F: Files>(
+/// Evaluates a function of a source, with the bytes of the data files that are named.
+fn evaluate(
     alloc: Global,
-    files: &mut F,
-    file: &str,
-    function: &str,
-) -> Result<String, Stop>
-    ensures held { (F.state files.new).held ≡ (F.state files.old).held }
-    ensures reads { HasRead (BuildOf file.now function.now) (F.state files.old) (F.state files.new) }
-    ensures never_fall { (F.state files.old).faults ≤ (F.state files.new).faults }
-    ensures allowed { Gives (IsAllowed (BuildOf file.now function.now) (F.state files.old) (F.state files.new)) result }
-{
-    let source = read_file(alloc, files, file, MOST_SOURCE, "L1")?;
-    build_source(alloc, source.as_slice(), function)
-}
-
-/// Evaluates a function of the source in a file, with the data files that are named.
-fn compose_eval<F: Files>(
-    alloc: Global,
-    files: &mut F,
     asked: EvalWords<'_>,
+    source: &[u8],
+    found: &[Vec<u8>],
 ) -> Result<String, Stop>
-    ensures held { (F.state files.new).held ≡ (F.state files.old).held }
-    ensures reads { HasRead (EvalOf (evaluation_of asked.entry)) (F.state files.old) (F.state files.new) }
-    ensures never_fall { (F.state files.old).faults ≤ (F.state files.new).faults }
-    ensures allowed { Gives
-        (IsAllowed (EvalOf (evaluation_of asked.entry)) (F.state files.old) (F.state files.new)) result }
+    ensures { GivesLine (IsEvalOutcome (evaluation_of asked.entry) source.now (texts_of found.now)) result }
 {
-    let source = read_file(alloc, files, asked.file, MOST_SOURCE, "L1")?;
-    let args = read_data(alloc, files, asked.args)?;
-    let witness = read_data(alloc, files, asked.witness)?;
-    let given = GivenFiles {
-        function: asked.function,
-        args: lent(&args),
-        witness: lent(&witness),
+    let (args, rest) = next_named(asked.args, found);
+    let (witness, _) = next_named(asked.witness, rest);
+    let given = GivenWords {
+        asked: AskedSource {
+            function: asked.function,
+            edition: asked.edition.number(),
+            args,
+        },
+        witness,
         input: asked.input,
     };
-    evaluate_source(alloc, source.as_slice(), given)
+    evaluate_source(alloc, source, given)
+}
+
+/// Of files that were read, the bytes of that of a word which may name one, and the files after it.
+fn next_named<'a>(name: Option<&str>, found: &'a [Vec<u8>]) -> (Option<&'a [u8]>, &'a [Vec<u8>])
+    ensures next { option_copied result.0 ≡ next_named (option_copied name.entry) (texts_of found.entry.now) }
+    ensures rest { texts_of result.1.now ≡ after_named (option_copied name.entry) (texts_of found.entry.now) }
+{
+    match (name, found.split_first()) {
+        (Some(_), Some((bytes, rest))) => (Some(bytes.as_slice()), rest),
+        _ => (None, found),
+    }
 }
 
 /// The law that an outcome is one: its status, and its text for standard error; of an evaluation its

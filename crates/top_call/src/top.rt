@@ -6,7 +6,7 @@ ghost use Rattle.top_call.specs.Answered.{IsPut, IsDelivered};
 ghost use Rattle.command_words.specs.Words.{reading, texts};
 
 use crate::outcome::compose;
-use command_outcome::{Status, Stop};
+use command_outcome::{Status, Stop, no_memory_line, write_line};
 use outside::{Files, Sink, SinkFailed};
 use std::alloc::Global;
 
@@ -29,7 +29,7 @@ pub fn simphl<F: Files, O: Sink, E: Sink>(
     match compose(alloc, words, files) {
         Ok(text) => deliver(out, err, text.as_bytes()),
         Err(Stop::Refused { status, line }) => refuse(err, status, line.as_bytes()),
-        Err(Stop::OutOfMemory) => refuse(err, Status::NoMemory, b"no memory\n"),
+        Err(Stop::OutOfMemory) => refuse(err, Status::NoMemory, no_memory_line()),
     }
 }
 
@@ -40,7 +40,7 @@ fn deliver<O: Sink, E: Sink>(out: &mut O, err: &mut E, text: &[u8]) -> Status
     match out.put(text) {
         Ok(()) => Status::Done,
         Err(SinkFailed) => {
-            let _ = err.put(b"write\n");
+            let _ = err.put(write_line());
             Status::WriteFault
         }
     }

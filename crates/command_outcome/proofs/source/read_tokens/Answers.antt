@@ -3,7 +3,7 @@ use Rattle.command_outcome.proofs.source.read_tokens.Goals as goal
 
 pub returns-in-Err-Syntax : goal.returns-in-Err-Syntax
 returns-in-Err-Syntax c =
-    dead_tokens c.args.found.now c.args.end c.in-Err-Syntax.at c.broken_span.result (rw c.in-Err-Syntax.field-0-is at c.in-Err-Syntax.ensures.cause) c.broken_span.ensures
+    dead_tokens c.args.found.now c.args.end c.in-Err-Syntax.at c.refused_span.result (rw c.in-Err-Syntax.field-0-is at c.in-Err-Syntax.ensures.cause) c.refused_span.ensures
 
 pub returns-in-Err-TooDeep : goal.returns-in-Err-TooDeep
 returns-in-Err-TooDeep c =

@@ -1,11 +1,10 @@
 use Rattle.std.proofs.Common.{ap}
 use Rattle.std.specs.Option.{option_copied}
-use Rattle.eval_command.specs.Parts.{is_read}
-use Rattle.eval_command.proofs.Steps.{no_value_stops}
+use Rattle.eval_command.proofs.Steps.{no_value_stops, value_read}
 use Rattle.eval_command.proofs.argument.read_argument.Goals as goal
 
 pub returns-in-Ok-clause-read : goal.returns-in-Ok-clause-read
-returns-in-Ok-clause-read c = is_read c.in-Some.text.now (ap option_copied c.in-Some.is) c.in-Ok.ensures.read
+returns-in-Ok-clause-read c = value_read c.args.kind.now (option_copied c.args.input) c.in-Some.text.now c.in-Ok.value (ap option_copied c.in-Some.is) c.in-Ok.ensures.read
 
 pub returns-in-Err-NotValue-clause-read : goal.returns-in-Err-NotValue-clause-read
 returns-in-Err-NotValue-clause-read c =

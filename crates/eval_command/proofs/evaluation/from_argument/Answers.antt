@@ -10,11 +10,11 @@ unreachable-requires c = missing_is _ _ _ _ c.in_default.is c.function_named.ens
 
 pub read_argument-requires : goal.read_argument-requires
 read_argument-requires c =
-    rw (c.in_ok-kind.ensures, c.as_slice.ensures) (sound_argument c.args.program.now c.args.given.function.now c.in-Some.function.now c.breaks_nothing.ensures (found_is _ _ _ _ c.in-Some.function c.in-Some.is c.function_named.ensures (c.as_slice-functions.ensures ∙ c.functions.ensures)))
+    rw (c.in_ok-kind.ensures, c.as_slice.ensures) (sound_argument c.args.program.now c.args.given.asked.function.now c.in-Some.function.now c.typed_programs_are_typed.ensures (found_is _ _ _ _ c.in-Some.function c.in-Some.is c.function_named.ensures (c.as_slice-functions.ensures ∙ c.functions.ensures)))
 
 pub from_call-requires : goal.from_call-requires
 from_call-requires c =
-    fits_call c.args.program.now c.args.given.function.now c.in-Some.function.now c.in_ok-kind.kind c.in-Ok.argument c.args.witness.now
+    fits_call c.args.program.now c.args.given.asked.function.now c.in-Some.function.now c.in_ok-kind.kind c.in-Ok.argument c.args.witness.now
     (found_is _ _ _ _ c.in-Some.function c.in-Some.is c.function_named.ensures (c.as_slice-functions.ensures ∙ c.functions.ensures))
     (c.in_ok-kind.ensures ∙ ap argument_type c.as_slice.ensures) c.in-Ok.ensures.of_kind c.requires.valued
 

@@ -1,5 +1,5 @@
-use Rattle.hl_files.proofs.Typing.{type_answered, tree_refused}
-use Rattle.hl_files.proofs.texts.read_type.Goals as goal
+use Rattle.hl_type_texts.proofs.Typing.{type_answered, tree_refused}
+use Rattle.hl_type_texts.proofs.text.read_type.Goals as goal
 
 pub returns-in-Ok-parsed-clause-read : goal.returns-in-Ok-parsed-clause-read
 returns-in-Ok-parsed-clause-read c =

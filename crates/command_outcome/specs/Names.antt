@@ -1,9 +1,13 @@
--- The names of rules and limits, as they are printed.
+-- The names of rules, of limits, and of what is wrong with a source or with data, as they are printed.
 use Rattle.std.specs.Prelude.{ℕ, List, codes}
 use Rattle.hl_syntax.specs.declared.rules.Limit.{Limit}
 use Rattle.hl_syntax.specs.declared.rules.Limit.TheVariants as limit
 use Rattle.hl_syntax.specs.declared.rules.Rule.{Rule}
 use Rattle.hl_syntax.specs.declared.rules.Rule.TheVariants as rule
+use Rattle.command_outcome.specs.declared.names.DataCause.{DataCause}
+use Rattle.command_outcome.specs.declared.names.DataCause.TheVariants as data_causes
+use Rattle.command_outcome.specs.declared.names.SourceCause.{SourceCause}
+use Rattle.command_outcome.specs.declared.names.SourceCause.TheVariants as causes
 
 abbrev pub rule_name : Rule → List ℕ
 rule_name rule.K1 = codes "K1"
@@ -42,3 +46,19 @@ limit_name limit.L7 = codes "L7"
 limit_name limit.L8 = codes "L8"
 limit_name limit.L9 = codes "L9"
 limit_name limit.L10 = codes "L10"
+
+abbrev pub source_cause : SourceCause → List ℕ
+source_cause causes.NotUtf8 = codes "NotUtf8"
+source_cause causes.BadCharacter = codes "BadCharacter"
+source_cause causes.OpenComment = codes "OpenComment"
+source_cause causes.Syntax = codes "Syntax"
+source_cause (causes.Broken rule) = rule_name rule
+source_cause causes.NotYet = codes "NotYet"
+
+abbrev pub data_cause : DataCause → List ℕ
+data_cause data_causes.NotJson = codes "NotJson"
+data_cause data_causes.Missing = codes "Missing"
+data_cause data_causes.BadEntry = codes "BadEntry"
+data_cause data_causes.TypeDiffers = codes "TypeDiffers"
+data_cause data_causes.BadValue = codes "BadValue"
+data_cause data_causes.NotValue = codes "NotValue"

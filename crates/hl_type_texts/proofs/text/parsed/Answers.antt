@@ -1,4 +1,4 @@
-use Rattle.hl_files.proofs.texts.parsed.Goals as goal
+use Rattle.hl_type_texts.proofs.text.parsed.Goals as goal
 
 pub returns-in-Err-Syntax : goal.returns-in-Err-Syntax
 returns-in-Err-Syntax c = record { none = λ tree h. rw c.in-Err-Syntax.field-0-is at (c.in-Err-Syntax.ensures.types tree h) }

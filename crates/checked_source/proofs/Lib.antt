@@ -1,0 +1,3 @@
+pub mod Leading
+mod There
+pub mod One

@@ -1,0 +1,11 @@
+use Rattle.checked_source.specs.Parts.{asking_of}
+use Rattle.checked_source.proofs.Leading.{entries_lead, entries_stop}
+use Rattle.checked_source.proofs.source.check_tree.Goals as goal
+
+pub returns-in-Ok-clause-checked : goal.returns-in-Ok-clause-checked
+returns-in-Ok-clause-checked c =
+    entries_lead (asking_of c.args.asked) c.args.end c.args.program.now c.object_in.result.now c.in_ok-names.names c.in-Ok.params c.check_rules.result c.object_in.ensures c.in_ok-names.ensures c.in-Ok.ensures.read c.check_rules.ensures.checked
+
+pub returns-in-Err-clause-checked : goal.returns-in-Err-clause-checked
+returns-in-Err-clause-checked c =
+    entries_stop (asking_of c.args.asked) c.args.end c.args.program.now c.object_in.result.now c.in_ok-names.names c.in-Err.refusal c.refused_args.result c.object_in.ensures c.in_ok-names.ensures c.in-Err.ensures.read c.refused_args.ensures
