@@ -1,5 +1,6 @@
 -- Both walks of an expression by those of its parts.
-use Rattle.std.proofs.Common.{◌≡◌, Bool, Ok, sym, ap, ◌∙◌}
+use Rattle.std.proofs.Common.{◌≡◌, Bool, true, false, ◌&&◌, List, map, Ok, refl, sym, ap, ◌∙◌, IsTrue}
+use Rattle.std.specs.List.{list_all}
 use Rattle.hl_syntax.specs.declared.kinds.HlType.{HlType}
 use Rattle.hl_syntax.specs.declared.kinds.HlType.TheViews.{out-HlType}
 use Rattle.hl_syntax.specs.declared.token.Span.{Span}
@@ -50,6 +51,13 @@ value_layer tree =
 pub value_rolled : (w : Layer) (form : ExprForm) (span : Span) → roll-ExprForm w ≡ form → is_value (expr_of form span) ≡ value_step (value_parts w)
 value_rolled w form span is =
     ap (λ f. is_value (expr_of f span)) (sym is) ∙ value_layer (expr_of (roll-ExprForm w) span) ∙ ap (λ y. value_step (value_parts y)) (out-roll-ExprForm w)
+
+abbrev pub AreValues : List Expr → Type 0
+AreValues es = IsTrue (list_all (λ part. part) (map is_value es))
+
+pub both_true : (a b : Bool) → IsTrue (a && b) → IsTrue a × IsTrue b
+both_true true b h = (refl, h)
+both_true false b h = cc
 
 -- the parts as they are checked
 

@@ -1,5 +1,5 @@
 -- Typed trees of each form of values: which value each means, by those that its parts mean.
-use Rattle.std.proofs.Common.{◌≡◌, ℕ, zero, suc, ◌^◌, ◌<◌, Bool, true, false, ◌&&◌, nat_eq, nat_lt, eqb-true, ltb-true, List, [], ◌∷◌, map, arith, refl, sym, ap, ◌∙◌, subst, IsTrue}
+use Rattle.std.proofs.Common.{◌≡◌, ℕ, zero, suc, ◌^◌, ◌<◌, true, false, nat_eq, nat_lt, eqb-true, ltb-true, List, [], ◌∷◌, map, arith, refl, sym, ap, ◌∙◌, subst, IsTrue}
 use Rattle.hl_data.specs.declared.typed.TypedExpr.{TypedExpr}
 use Rattle.hl_data.specs.declared.typed.TypedForm.{TypedForm}
 use Rattle.hl_data.specs.declared.typed.TypedForm.TheVariants as typed
@@ -18,10 +18,7 @@ use Rattle.hl_meaning.specs.Scopes.{Binding, Scope}
 use Rattle.hl_meaning.specs.Values.{word_of}
 use Rattle.hl_meaning.proofs.Forms.{mean-Tuple, mean-Array, mean-List, mean-Left, mean-Right, mean-Some, mean-Nothing, mean-True, mean-False, mean-Literal}
 use Rattle.hl_value_walks.specs.Agree.{Spells}
-
-pub both_true : (a b : Bool) → IsTrue (a && b) → IsTrue a × IsTrue b
-both_true true b h = (refl, h)
-both_true false b h = cc
+use Rattle.hl_value_walks.proofs.Layers.{both_true}
 
 -- Widths of types are those of the machine's words.
 

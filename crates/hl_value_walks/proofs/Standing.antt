@@ -18,11 +18,7 @@ use Rattle.simplicityhl.specs.Grammar as grammar
 use Rattle.simplicityhl.specs.Grammar.{Listed, Stands, many_turn, alone_or, expr_of, expr_form, expr_level, of_values, every_alternative, type, pattern}
 use Rattle.hl_value_walks.specs.Agree.{value_step, is_value}
 use Rattle.hl_value_walks.specs.Laws.{IsValueExpression}
-use Rattle.hl_value_walks.proofs.Layers.{Layer, value_parts, value_rolled}
-use Rattle.hl_value_walks.proofs.Spelling.{both_true}
-
-abbrev AreValues : List Expr → Type 0
-AreValues es = IsTrue (list_all (λ part. part) (map is_value es))
+use Rattle.hl_value_walks.proofs.Layers.{Layer, value_parts, value_rolled, AreValues, both_true}
 
 one_more : (es : List Expr) (e : Expr) → AreValues es → IsTrue (is_value e) → AreValues (es ++ e ∷ [])
 one_more [] e h one = rw one refl

@@ -1,5 +1,5 @@
 -- By induction over types: expressions of forms of values are read as they are checked.
-use Rattle.std.proofs.Common.{◌≡◌, ℕ, ◌^◌, Bool, true, false, ◌&&◌, nat_eq, nat_lt, List, [], ◌∷◌, length, map, Option, Some, None, option_map, Result, Ok, Err, refl, sym, ap, ◌∙◌, subst, arith, eqb-true, eq-eqb, IsTrue}
+use Rattle.std.proofs.Common.{◌≡◌, ℕ, ◌^◌, Bool, true, false, nat_eq, nat_lt, List, [], ◌∷◌, length, map, Option, Some, None, option_map, Result, Ok, Err, refl, sym, ap, ◌∙◌, subst, arith, eqb-true, eq-eqb, IsTrue}
 use Rattle.std.proofs.lemmas.List.{length-map}
 use Rattle.std.specs.List.{list_all}
 use Rattle.hl_data.specs.declared.typed.TypedExpr.{TypedExpr}
@@ -30,8 +30,8 @@ use Rattle.hl_rules.specs.Walks.{Walk}
 use Rattle.hl_values.specs.Written.{written, form_at, each_at, all_at}
 use Rattle.hl_values.proofs.Reading.{unlike_counts}
 use Rattle.hl_value_walks.specs.Agree.{value_step, is_value, Spells, Agree, same, neither}
-use Rattle.hl_value_walks.proofs.Layers.{Layer, read_parts, read_layer, value_parts, value_layer, walked_parts, walk_layer, with_type}
-use Rattle.hl_value_walks.proofs.Spelling.{both_true, at_type, AllSpell, none_spell, more_spell, true_spells, false_spells, nothing_spells, literal_spells, some_spells, left_spells, right_spells, tuple_spells, array_spells, list_spells}
+use Rattle.hl_value_walks.proofs.Layers.{Layer, read_parts, read_layer, value_parts, value_layer, walked_parts, walk_layer, with_type, AreValues, both_true}
+use Rattle.hl_value_walks.proofs.Spelling.{at_type, AllSpell, none_spell, more_spell, true_spells, false_spells, nothing_spells, literal_spells, some_spells, left_spells, right_spells, tuple_spells, array_spells, list_spells}
 
 same_bool : (k : HlType) → same_type kind.Bool k ≡ same_shape HlType-F.Bool (out-HlType k)
 same_bool k =
@@ -39,9 +39,6 @@ same_bool k =
     ∙ ap (λ (f : HlType → Bool). f k) (fold-roll-HlType (HlType → Bool) (λ shape other. same_shape shape (out-HlType other)) HlType-F.Bool)
 
 -- A form of values, with what its parts are.
-
-abbrev AreValues : List Expr → Type 0
-AreValues es = IsTrue (list_all (λ part. part) (map is_value es))
 
 data IsForm : Layer → Type 0 where
   a_tuple : (es : List Expr) → AreValues es → IsForm (ExprForm-F.Tuple es)
