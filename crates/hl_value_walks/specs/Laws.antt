@@ -33,12 +33,14 @@ pub record IsValueExpression (depth : ℕ) (ts : List Token) (tree : Expr) : Typ
 
 -- the tokens of a value text are an expression with the same tree, nested as deep, and of forms of values
 abbrev pub ValueTextsAreExpressions : Type 0
-ValueTextsAreExpressions = (depth : ℕ) (ts : List Token) (tree : Expr) → Stands grammar.value depth ts tree → IsValueExpression depth ts tree
+ValueTextsAreExpressions =
+    (depth : ℕ) (ts : List Token) (tree : Expr) → Stands grammar.value depth ts tree → IsValueExpression depth ts tree
 
 -- and tokens that are an expression of forms of values are a value text with the same tree
 abbrev pub ExpressionsOfValuesAreTexts : Type 0
 ExpressionsOfValuesAreTexts =
-    (depth : ℕ) (ts : List Token) (tree : Expr) → IsTrue (is_value tree) → Stands grammar.expr depth ts tree → Stands grammar.value depth ts tree
+    (depth : ℕ) (ts : List Token) (tree : Expr) → IsTrue (is_value tree) → Stands grammar.expr depth ts tree →
+    Stands grammar.value depth ts tree
 
 -- what checking an expression at a type gives, and whether a text is a value text of the type: one for the value that the typed tree
 -- means, or none where a rule is broken

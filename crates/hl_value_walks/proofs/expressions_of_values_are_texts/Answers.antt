@@ -1,4 +1,4 @@
-use Rattle.hl_value_walks.proofs.Dropping.{exprs_drop}
+use Rattle.hl_value_walks.proofs.AsTexts.{exprs_drop}
 use Rattle.hl_value_walks.proofs.expressions_of_values_are_texts.Goals as goal
 
 pub returns : goal.returns
