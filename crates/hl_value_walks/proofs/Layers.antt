@@ -1,5 +1,6 @@
 -- Both walks of an expression by those of its parts.
-use Rattle.std.proofs.Common.{◌≡◌, Bool, Ok, sym, ap, ◌∙◌}
+use Rattle.std.proofs.Common.{◌≡◌, Bool, true, false, ◌&&◌, List, map, Ok, refl, sym, ap, ◌∙◌, IsTrue}
+use Rattle.std.specs.List.{list_all}
 use Rattle.hl_syntax.specs.declared.kinds.HlType.{HlType}
 use Rattle.hl_syntax.specs.declared.kinds.HlType.TheViews.{out-HlType}
 use Rattle.hl_syntax.specs.declared.token.Span.{Span}
@@ -47,9 +48,18 @@ value_layer tree =
     fold_out-Expr Bool (Unit {0}) (Unit {0}) Bool value_step (λ s. tt) (λ a. tt) (λ e. e.form) tree
     ∙ fold_out-ExprForm Bool (Unit {0}) (Unit {0}) Bool value_step (λ s. tt) (λ a. tt) (λ e. e.form) tree.form
 
-pub value_rolled : (w : Layer) (form : ExprForm) (span : Span) → roll-ExprForm w ≡ form → is_value (expr_of form span) ≡ value_step (value_parts w)
+pub value_rolled : (w : Layer) (form : ExprForm) (span : Span) → roll-ExprForm w ≡ form →
+    is_value (expr_of form span) ≡ value_step (value_parts w)
 value_rolled w form span is =
-    ap (λ f. is_value (expr_of f span)) (sym is) ∙ value_layer (expr_of (roll-ExprForm w) span) ∙ ap (λ y. value_step (value_parts y)) (out-roll-ExprForm w)
+    ap (λ f. is_value (expr_of f span)) (sym is) ∙ value_layer (expr_of (roll-ExprForm w) span)
+    ∙ ap (λ y. value_step (value_parts y)) (out-roll-ExprForm w)
+
+abbrev pub AreValues : List Expr → Type 0
+AreValues es = IsTrue (list_all (λ part. part) (map is_value es))
+
+pub both_true : (a b : Bool) → IsTrue (a && b) → IsTrue a × IsTrue b
+both_true true b h = (refl, h)
+both_true false b h = cc
 
 -- the parts as they are checked
 
@@ -60,9 +70,11 @@ module _ (c : Context) where
 
   -- a form's walk at its span, and its type beside what it gives
   abbrev pub with_type : Span → FormWalk → ExprWalk
-  with_type span f scope expected rule met = then_walk (f span scope expected rule met) (λ found. Ok (record { kind = expected; form = found.0 }, found.1))
+  with_type span f scope expected rule met =
+      then_walk (f span scope expected rule met) (λ found. Ok (record { kind = expected; form = found.0 }, found.1))
 
   pub walk_layer : (tree : Expr) → expr_walk c tree ≡ with_type tree.span (walks.form_step c (walked_parts (out-ExprForm tree.form)))
   walk_layer tree =
       fold_out-Expr FormWalk StatementWalk ArmWalk ExprWalk (walks.form_step c) (statement_step c) (arm_step c) (expr_step c) tree
-      ∙ ap (with_type tree.span) (fold_out-ExprForm FormWalk StatementWalk ArmWalk ExprWalk (walks.form_step c) (statement_step c) (arm_step c) (expr_step c) tree.form)
+      ∙ ap (with_type tree.span)
+      (fold_out-ExprForm FormWalk StatementWalk ArmWalk ExprWalk (walks.form_step c) (statement_step c) (arm_step c) (expr_step c) tree.form)

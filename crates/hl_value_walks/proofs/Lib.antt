@@ -1,4 +1,6 @@
 pub mod Layers
 pub mod Spelling
 pub mod Walking
-pub mod Standing
+pub mod AsExpressions
+pub mod AsTexts
+pub mod Texts

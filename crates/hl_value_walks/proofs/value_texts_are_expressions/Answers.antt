@@ -1,4 +1,4 @@
-use Rattle.hl_value_walks.proofs.Standing.{texts_lift}
+use Rattle.hl_value_walks.proofs.AsExpressions.{texts_lift}
 use Rattle.hl_value_walks.proofs.value_texts_are_expressions.Goals as goal
 
 pub returns : goal.returns

@@ -1,0 +1,5 @@
+use Rattle.hl_value_walks.proofs.AsTexts.{exprs_drop}
+use Rattle.hl_value_walks.proofs.expressions_of_values_are_texts.Goals as goal
+
+pub returns : goal.returns
+returns c = exprs_drop
