@@ -1,0 +1,12 @@
+pub mod Encoded
+pub mod Led
+pub mod Paths
+pub mod Givens
+pub mod Patterns
+pub mod Parts
+pub mod Lists
+pub mod Listed
+pub mod Params
+pub mod Sides
+pub mod Bound
+pub mod Constructs
