@@ -10,3 +10,9 @@ pub mod Params
 pub mod Sides
 pub mod Bound
 pub mod Constructs
+pub mod Matches
+pub mod Called
+pub mod Widths
+pub mod Bodies
+pub mod Tuples
+pub mod Programs

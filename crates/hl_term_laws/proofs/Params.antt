@@ -11,6 +11,7 @@ use Rattle.hl_data.specs.declared.value.HlValue.TheViews.{roll-HlValue}
 use Rattle.hl_syntax.specs.declared.kinds.HlType.{HlType}
 use Rattle.hl_syntax.specs.declared.kinds.HlType.TheOpen.{HlType-F}
 use Rattle.hl_syntax.specs.declared.kinds.HlType.TheViews.{out-HlType}
+use Rattle.hl_syntax.specs.declared.kinds.TypedName.{TypedName}
 use Rattle.jets.specs.Unsigned.{Unsigned}
 use Rattle.hl_meaning.specs.Answer.{gives}
 use Rattle.hl_meaning.specs.Scopes.{Binding}
