@@ -30,15 +30,15 @@ pub record Called (w : List Value) (functions : List Function) (terms : List Fun
   pub renders : RendersCall w (param_types f) f.result run.run made.term
 
 module _ (witnesses : List TypedName) (given : List Binding) (w : List Value) where
-  record FoundRendered (gs : List Function) (ts : List FunctionTerm) (name : List ℕ) (f : TypedFunction) : Type 0 where
-    run : Function
-    there : find (λ g. bytes_eq name g.name) gs ≡ Some run
-    made : FunctionTerm
-    stands : find (λ t. bytes_eq name t.name) ts ≡ Some made
-    renders : RendersFunction (programs.witnesses_of f.name witnesses) given w f run made
-    is : name ≡ f.name
+  pub record FoundRendered (gs : List Function) (ts : List FunctionTerm) (name : List ℕ) (f : TypedFunction) : Type 0 where
+    pub run : Function
+    pub there : find (λ g. bytes_eq name g.name) gs ≡ Some run
+    pub made : FunctionTerm
+    pub stands : find (λ t. bytes_eq name t.name) ts ≡ Some made
+    pub renders : RendersFunction (programs.witnesses_of f.name witnesses) given w f run made
+    pub is : name ≡ f.name
 
-  found_rendered : (fs : List TypedFunction) (gs : List Function) (ts : List FunctionTerm) (name : List ℕ) (f : TypedFunction) → AllRendered witnesses given w fs gs ts → find (λ g. bytes_eq name g.name) fs ≡ Some f →
+  pub found_rendered : (fs : List TypedFunction) (gs : List Function) (ts : List FunctionTerm) (name : List ℕ) (f : TypedFunction) → AllRendered witnesses given w fs gs ts → find (λ g. bytes_eq name g.name) fs ≡ Some f →
       FoundRendered gs ts name f
   found_rendered [] gs ts name f all is = absurd (cc)
   found_rendered (x ∷ fs) [] ts name f all is = absurd all

@@ -16,3 +16,6 @@ pub mod Widths
 pub mod Bodies
 pub mod Tuples
 pub mod Programs
+pub mod Converted
+pub mod Arguments
+pub mod Calls

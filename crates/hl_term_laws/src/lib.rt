@@ -2,15 +2,23 @@
 //! language. The functions below have no body, and their contracts are the laws.
 #![tactic(auto)]
 
-ghost use Rattle.hl_term_laws.specs.Laws.{ExpressionsRender, FunctionsRender};
+ghost use Rattle.hl_term_laws.specs.Laws.{CallsAgree, ExpressionsRender, FunctionsRender};
 
-/// The term of a typed expression in a scope has the scope's arrow, keeps to the typing table at
-/// every place, and computes the encoding of what the expression gives, or fails where it fails.
+/// The term of a typed expression in a scope has the arrow from the scope's type to that of the
+/// expression, keeps to the typing table at every place, and on the encodings of values it computes
+/// the encoding of what the expression gives, or fails where that fails.
 pub fn expressions_render_law()
     ensures { ExpressionsRender }
 {}
 
-/// The same for the functions of a typed program, each on the tuple of its arguments' encodings.
+/// The same of the functions of a typed program, each on the tuple of its arguments' encodings.
 pub fn functions_render_law()
     ensures { FunctionsRender }
+{}
+
+/// Each call of a typed program that fits it: the term of the function that is called, on the
+/// encoding of the argument, gives the encoding of the value that the call gives, and fails exactly
+/// where the call fails; one of both is the case.
+pub fn calls_agree_law()
+    ensures { CallsAgree }
 {}
