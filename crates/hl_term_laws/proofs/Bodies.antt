@@ -44,10 +44,10 @@ use Rattle.hl_terms.proofs.Forms.{term-Let, term-Plain, term-arm, term-Block, te
 use Rattle.hl_terms.specs.Paths.{witness_term}
 use Rattle.hl_terms.specs.Shapes.{Shape, Both, kind_of, variables_of, witnesses_of, pattern_shape}
 use Rattle.hl_terms.specs.Translated.{Expansions, FunctionTerm, Translator, StatementTranslator, ArmTranslator, translated, statement_translated, arm_translated, block_term, each_in, match_term, side_shape, called, counting, witness_or, witness_number}
-use Rattle.hl_term_laws.specs.Renders.{Renders, RendersCall, RendersLoop, JetsRendered, LoopsRendered}
+use Rattle.hl_term_laws.specs.Renders.{Renders, RendersCall, RendersLoop, JetsRendered, LoopsRendered, Recodes}
 use Rattle.hl_term_laws.proofs.Bound.{pattern_holds}
 use Rattle.hl_term_laws.proofs.Called.{Called, width_there}
-use Rattle.hl_term_laws.proofs.Constructs.{Recodes, right_as, name_right, literal_right, true_right, false_right, panic_right, nothing_right, some_right, left_right, right_right, assert_right, unwrap_right, unwrap_left_right, unwrap_right_right, tuple_right, is_none_right, array_right, into_right, over_right, two_right, called_right, let_right, plain_right, empty_right, match_left_right, match_right_left}
+use Rattle.hl_term_laws.proofs.Constructs.{right_as, name_right, literal_right, true_right, false_right, panic_right, nothing_right, some_right, left_right, right_right, assert_right, unwrap_right, unwrap_left_right, unwrap_right_right, tuple_right, is_none_right, array_right, into_right, over_right, two_right, called_right, let_right, plain_right, empty_right, match_left_right, match_right_left}
 use Rattle.hl_term_laws.proofs.Listed.{listed_right}
 use Rattle.hl_term_laws.proofs.Matches.{Ordered, left_first, right_first, taken, left_side}
 use Rattle.hl_term_laws.proofs.Params.{value_right}

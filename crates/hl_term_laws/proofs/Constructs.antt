@@ -28,7 +28,7 @@ use Rattle.simplicity.specs.Widths.{level_of, word_of_width}
 use Rattle.simplicityhl.specs.Kinds.{form, form_step, IsSound}
 use Rattle.simplicity.specs.Arrows.{IsTypedTerm}
 use Rattle.simplicity.specs.Arrows as row
-use Rattle.hl_term_laws.specs.Renders.{Encodes, Computes, Scoped, ScopedIgnored, ScopedBoth, Renders, AreGiven, RendersLoop, over_items}
+use Rattle.hl_term_laws.specs.Renders.{Encodes, Computes, Scoped, ScopedIgnored, ScopedBoth, Renders, AreGiven, RendersLoop, over_items, Recodes}
 use Rattle.simplicity.specs.Arrows.{source, target}
 use Rattle.simplicity.specs.Makes.{iden, unit, comp, pair, on_first, on_second, to_left, to_right, by_tag, only_left, only_right, word, fail, tuple, zero_bytes}
 use Rattle.hl_terms.specs.Shapes.{Shape, Ignored, Both, kind_of, variables_of, pattern_shape}
@@ -98,10 +98,6 @@ both_of : (a b c : Bool) → a && (b && c) ≡ true → (a ≡ true) × (b ≡ t
 both_of true true c h = (refl, refl)
 both_of true false c h = absurd (cc)
 both_of false b c h = absurd (cc)
-
--- what is encoded at one sound type and decoded at another of the same form is encoded there in the same core value
-abbrev pub Recodes : Type 0
-Recodes = (from to : HlType) (v u : HlValue) (c : Value) → IsSound from → IsSound to → form from ≡ form to → encoded v from ≡ Some c → decoded to c ≡ Some u → encoded u to ≡ Some c
 
 into_by : (from to : HlType) (v : HlValue) (c : Value) (b : Bool) → are_alike from to ≡ b → Recodes → form from ≡ form to → encoded v from ≡ Some c →
     Computes to (if b then known (option_and_then (decoded to) (encoded v from)) else stuck) (Some c)

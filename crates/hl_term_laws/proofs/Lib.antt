@@ -16,6 +16,3 @@ pub mod Widths
 pub mod Bodies
 pub mod Tuples
 pub mod Programs
-pub mod Converted
-pub mod Arguments
-pub mod Calls

@@ -33,10 +33,9 @@ use Rattle.hl_terms.specs.Programs.{plain_term, bound_term, witness_leaves, witn
 use Rattle.hl_terms.specs.Shapes.{Shape, Ignored, Variable, Witness, Both, kind_of, variables_of, witnesses_of, params_shape, witnesses_shape}
 use Rattle.hl_terms.specs.Translated.{Expansions, FunctionTerm, translated, witness_or, witness_number}
 use Rattle.hl_term_laws.specs.Laws.{AllRendered, BindsWitnesses, binds_all, binds_none, ExpressionsRender, FunctionsRender}
-use Rattle.hl_term_laws.specs.Renders.{Computes, Scoped, ScopedWitness, ScopedBoth, Renders, RendersFunction, Runs, IsGiven, AreGiven, JetsRendered, LoopsRendered}
+use Rattle.hl_term_laws.specs.Renders.{Computes, Scoped, ScopedWitness, ScopedBoth, Renders, RendersFunction, Runs, IsGiven, AreGiven, JetsRendered, LoopsRendered, Recodes}
 use Rattle.hl_term_laws.proofs.Bodies.{Setting, Over, renders}
 use Rattle.hl_term_laws.proofs.Called.{called}
-use Rattle.hl_term_laws.proofs.Constructs.{Recodes}
 use Rattle.hl_term_laws.proofs.Givens.{holds_at, not_given}
 use Rattle.hl_term_laws.proofs.Parts.{Piece, Pieces, TupleRight, tuple_right, answer_tuple, all_some, tuple_meaning}
 use Rattle.hl_term_laws.proofs.Patterns.{Laid, Laids, together, params_scoped}
@@ -318,14 +317,14 @@ module _ (x : Expansions) (edition : ℕ) (witnesses : List TypedName) (given : 
       (subst (AllRendered witnesses given w (before ++ f ∷ []) (gs ++ function_after given gs f ∷ [])) (sym (made_one [] before f))
       (zip_one before gs ts f (function_after given gs f) (function_term x edition witnesses ts f) all (function_rendered before gs ts all f typed)))
 
-pub functions_render : Recodes → FunctionsRender
+pub functions_render : FunctionsRender
 unfolding functions_of program_terms
-functions_render recodes x edition witnesses given w fs jets loops typed = all_rendered x edition witnesses given w jets loops recodes fs typed
+functions_render x edition witnesses given w fs jets loops recodes typed = all_rendered x edition witnesses given w jets loops recodes fs typed
 
-pub expressions_render : Recodes → ExpressionsRender
-expressions_render recodes x witnesses given w fs gs ts scope k e jets loops all (binds_all bound) typed =
+pub expressions_render : ExpressionsRender
+expressions_render x witnesses given w fs gs ts scope k e jets loops recodes all (binds_all bound) typed =
     let s = setting x 2 witnesses given w jets loops recodes (record { functions = fs; witnesses = witnesses }) witnesses gs ts all (leaf_of_path witnesses given w) in
     (renders s (ExprAt (variables_of scope) k e) typed).1 scope (record { names = refl; bare = bound })
-expressions_render recodes x witnesses given w fs gs ts scope k e jets loops all (binds_none bare) typed =
+expressions_render x witnesses given w fs gs ts scope k e jets loops recodes all (binds_none bare) typed =
     let s = setting x 1 witnesses given w jets loops recodes (record { functions = fs; witnesses = witnesses }) [] gs ts all (leaf_of_number witnesses given w) in
     (renders s (ExprAt (variables_of scope) k e) typed).1 scope (record { names = refl; bare = bare })

@@ -14,13 +14,13 @@ use Rattle.simplicity.specs.Canon.{Declared, erased}
 use Rattle.simplicity.specs.Terms.{meaning}
 use Rattle.simplicity.specs.Tuples.{tuple_value, tuple_kind}
 use Rattle.simplicity.specs.Types.{Kind, Product, Value, Pair}
-use Rattle.simplicityhl.specs.Kinds.{form, is_bound}
+use Rattle.simplicityhl.specs.Kinds.{form, is_bound, IsSound}
 use Rattle.hl_meaning.specs.Answer.{Answer, gives, fails, stuck, and_then, known}
 use Rattle.hl_meaning.specs.Jets.{jet_answer}
 use Rattle.hl_meaning.specs.Loops.{Calls, folded, counted, is_counter_width}
 use Rattle.hl_meaning.specs.Mean.{Meaning, Function, items_in_list, items_in_array}
 use Rattle.hl_meaning.specs.Scopes.{Binding, meant}
-use Rattle.hl_meaning.specs.Values.{encoded, at_each}
+use Rattle.hl_meaning.specs.Values.{encoded, decoded, at_each}
 use Rattle.hl_rules.specs.Exprs.{param_types, jet_named, jet_arguments, jet_result}
 use Rattle.hl_terms.specs.Shapes.{Shape, Ignored, Variable, Witness, Both, kind_of}
 use Rattle.hl_terms.specs.Translated.{Expansions, FunctionTerm}
@@ -122,3 +122,9 @@ pub record LoopsRendered (x : Expansions) : Type 0 where
   pub whiles : (w : List Value) (total context end : HlType) (width : ℕ) (run : Calls) (t : Declared) →
       RendersCall w (total ∷ context ∷ kind.UInt width ∷ []) (kind.Either end total) run t → IsTrue (is_counter_width width) →
       RendersLoop w total context (kind.Either end total) (λ made given. counted run width given (2 ^ width) 0 made) (x.for_while t width)
+
+-- What values owe: what is encoded at one sound type and decoded at another of the same form is encoded there in the same core value.
+abbrev pub Recodes : Type 0
+Recodes =
+    (from to : HlType) (v u : HlValue) (c : Value) → IsSound from → IsSound to → form from ≡ form to →
+    encoded v from ≡ Some c → decoded to c ≡ Some u → encoded u to ≡ Some c

@@ -2,7 +2,7 @@
 //! language. The functions below have no body, and their contracts are the laws.
 #![tactic(auto)]
 
-ghost use Rattle.hl_term_laws.specs.Laws.{CallsAgree, ExpressionsRender, FunctionsRender};
+ghost use Rattle.hl_term_laws.specs.Laws.{ExpressionsRender, FunctionsRender};
 
 /// The term of a typed expression in a scope has the arrow from the scope's type to that of the
 /// expression, keeps to the typing table at every place, and on the encodings of values it computes
@@ -14,11 +14,4 @@ pub fn expressions_render_law()
 /// The same of the functions of a typed program, each on the tuple of its arguments' encodings.
 pub fn functions_render_law()
     ensures { FunctionsRender }
-{}
-
-/// Each call of a typed program that fits it: the term of the function that is called, on the
-/// encoding of the argument, gives the encoding of the value that the call gives, and fails exactly
-/// where the call fails; one of both is the case.
-pub fn calls_agree_law()
-    ensures { CallsAgree }
 {}

@@ -5,7 +5,7 @@ use Rattle.hl_meaning.specs.Values.{encoded}
 use Rattle.hl_values.proofs.Coding.{sound_good}
 use Rattle.simplicity.specs.Types.{IsOf}
 use Rattle.simplicityhl.specs.Kinds.{form}
-use Rattle.hl_term_laws.proofs.Constructs.{Recodes}
+use Rattle.hl_term_laws.specs.Renders.{Recodes}
 use Rattle.hl_term_laws.proofs.Encoded.{some_same}
 
 pub recodes : Recodes

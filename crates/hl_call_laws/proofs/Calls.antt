@@ -14,11 +14,11 @@ use Rattle.hl_progress.proofs.Programs.{typed_answers}
 use Rattle.hl_progress.specs.Held.{HasAnswer}
 use Rattle.hl_terms.specs.Programs.{program_terms}
 use Rattle.hl_terms.specs.Translated.{FunctionTerm}
-use Rattle.hl_term_laws.specs.Laws.{Agrees, CallsAgree}
+use Rattle.hl_call_laws.specs.Laws.{Agrees, CallsAgree}
 use Rattle.hl_term_laws.specs.Renders.{Computes, AreGiven}
-use Rattle.hl_term_laws.proofs.Arguments.{arguments, argument_form}
+use Rattle.hl_call_laws.proofs.Arguments.{arguments, argument_form}
 use Rattle.hl_term_laws.proofs.Called.{FoundRendered, found_rendered}
-use Rattle.hl_term_laws.proofs.Converted.{recodes}
+use Rattle.hl_call_laws.proofs.Converted.{recodes}
 use Rattle.hl_term_laws.proofs.Programs.{functions_render}
 
 -- what has an answer and is computed agrees
@@ -33,7 +33,7 @@ calls_agree x edition program jets loops typed name argument given call core w e
     let fs = program.functions in
     let gs = functions_of given fs in
     let ts = program_terms x edition program.witnesses fs in
-    let all = functions_render recodes x edition program.witnesses given w fs jets loops typed.functions in
+    let all = functions_render x edition program.witnesses given w fs jets loops recodes typed.functions in
     let f = call.function in
     let r = found_rendered program.witnesses given w fs gs ts name f all call.there in
     let parts = arguments f.params argument core encodes in

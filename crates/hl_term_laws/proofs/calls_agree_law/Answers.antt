@@ -1,5 +1,0 @@
-use Rattle.hl_term_laws.proofs.Calls.{calls_agree}
-use Rattle.hl_term_laws.proofs.calls_agree_law.Goals as goal
-
-pub returns : goal.returns
-returns c = calls_agree
