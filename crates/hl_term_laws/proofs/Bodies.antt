@@ -1,5 +1,5 @@
 -- The term of what is typed by the rules renders its meaning, in every scope.
-use Rattle.std.proofs.Common.{◌≡◌, ℕ, suc, ◌<◌, ◌^◌, true, false, List, [], ◌∷◌, ◌++◌, length, map, find, replicate, bytes_eq, Option, Some, None, option_map, refl, sym, ap, ◌∙◌, subst, arith, IsTrue}
+use Rattle.std.proofs.Common.{◌≡◌, ℕ, suc, ◌<◌, ◌^◌, List, [], ◌∷◌, ◌++◌, length, map, replicate, Option, Some, None, option_map, refl, sym, ap, ◌∙◌, subst, arith, IsTrue}
 use Rattle.std.proofs.lemmas.List.{length-map}
 use Rattle.std.specs.Prelude.{option_and_then, IsSome}
 use Rattle.hl_data.specs.declared.typed.TypedArm.{TypedArm}
@@ -9,7 +9,6 @@ use Rattle.hl_data.specs.declared.typed.TypedFunction.{TypedFunction}
 use Rattle.hl_data.specs.declared.typed.TypedSide.{TypedSide}
 use Rattle.hl_data.specs.declared.typed.TypedStatement.{TypedStatement}
 use Rattle.hl_data.specs.declared.typed.TypedStatement.TheVariants as statements
-use Rattle.hl_data.specs.declared.value.HlValue.{HlValue}
 use Rattle.hl_data.specs.declared.value.HlValue.TheViews.{out-HlValue}
 use Rattle.hl_syntax.specs.declared.kinds.HlType.{HlType}
 use Rattle.hl_syntax.specs.declared.kinds.HlType.TheOpen.{HlType-F}
@@ -24,9 +23,8 @@ use Rattle.simplicityhl.specs.Kinds as kinds
 use Rattle.simplicityhl.specs.Kinds.{IsSound, bound_level, is_bound}
 use Rattle.simplicityhl.specs.Tokens.{decimal_value}
 use Rattle.hl_meaning.proofs.Forms.{mean-Let, mean-Plain, mean-Block, mean-Match, mean-Tuple, mean-Array, mean-List, mean-Assert, mean-Dbg, mean-Panic, mean-Jet, mean-Witness, mean-Value, mean-Into, mean-Unwrap, mean-UnwrapLeft, mean-UnwrapRight, mean-IsNone, mean-Left, mean-Right, mean-Some, mean-Nothing, mean-True, mean-False, mean-Literal, mean-Call, mean-Name, mean-Fold, mean-ArrayFold, mean-ForWhile, arm-side, arm-body}
-use Rattle.hl_meaning.specs.Answer.{Answer, and_then, known, shaped}
+use Rattle.hl_meaning.specs.Answer.{and_then, known, shaped}
 use Rattle.hl_meaning.specs.Jets.{jet_answer}
-use Rattle.hl_meaning.specs.Literals.{literal_value}
 use Rattle.hl_meaning.specs.Loops.{folded, counted, is_counter_width}
 use Rattle.hl_meaning.specs.Mean.{Function, Meaning, ArmMeaning, mean, mean_arm, mean_statement, matched, block_of, all_in, converted, number_at, items_in_list, items_in_array, counter_width}
 use Rattle.hl_meaning.specs.Scopes.{Binding, meant}
@@ -44,7 +42,7 @@ use Rattle.hl_terms.proofs.Forms.{term-Let, term-Plain, term-arm, term-Block, te
 use Rattle.hl_terms.specs.Paths.{witness_term}
 use Rattle.hl_terms.specs.Shapes.{Shape, Both, kind_of, variables_of, witnesses_of, pattern_shape}
 use Rattle.hl_terms.specs.Translated.{Expansions, FunctionTerm, Translator, StatementTranslator, ArmTranslator, translated, statement_translated, arm_translated, block_term, each_in, match_term, side_shape, called, counting, witness_or, witness_number}
-use Rattle.hl_term_laws.specs.Renders.{Renders, RendersCall, RendersLoop, JetsRendered, LoopsRendered, Recodes}
+use Rattle.hl_term_laws.specs.Renders.{Renders, RendersCall, JetsRendered, LoopsRendered, Recodes}
 use Rattle.hl_term_laws.proofs.Bound.{pattern_holds}
 use Rattle.hl_term_laws.proofs.Called.{Called, width_there}
 use Rattle.hl_term_laws.proofs.Constructs.{right_as, name_right, literal_right, true_right, false_right, panic_right, nothing_right, some_right, left_right, right_right, assert_right, unwrap_right, unwrap_left_right, unwrap_right_right, tuple_right, is_none_right, array_right, into_right, over_right, two_right, called_right, let_right, plain_right, empty_right, match_left_right, match_right_left}
@@ -52,7 +50,6 @@ use Rattle.hl_term_laws.proofs.Listed.{listed_right}
 use Rattle.hl_term_laws.proofs.Matches.{Ordered, left_first, right_first, taken, left_side}
 use Rattle.hl_term_laws.proofs.Params.{value_right}
 use Rattle.hl_term_laws.proofs.Parts.{AreRendered}
-use Rattle.hl_term_laws.proofs.Sides.{SidesFit}
 use Rattle.hl_term_laws.proofs.Widths.{word_width, bound_power}
 
 -- what a body is typed, evaluated and translated in: functions that are rendered, and witnesses of which the scope binds these

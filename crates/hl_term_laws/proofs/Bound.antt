@@ -4,21 +4,19 @@ use Rattle.std.proofs.lemmas.List.{length-replicate}
 use Rattle.hl_syntax.specs.declared.kinds.HlType.{HlType}
 use Rattle.hl_syntax.specs.declared.kinds.HlType.TheOpen.{HlType-F}
 use Rattle.hl_syntax.specs.declared.kinds.HlType.TheVariants as kind
-use Rattle.hl_syntax.specs.declared.kinds.HlType.TheViews.{out-HlType}
-use Rattle.hl_syntax.specs.declared.kinds.TypedName.{TypedName}
 use Rattle.hl_syntax.specs.declared.tree.Pattern.{Pattern}
 use Rattle.hl_syntax.specs.declared.tree.PatternForm.{PatternForm, roll-PatternForm}
 use Rattle.hl_syntax.specs.declared.tree.PatternForm.TheOpen.{PatternForm-F}
 use Rattle.hl_syntax.specs.declared.tree.PatternForm.TheFolds.{fold-PatternForm, fold-roll-PatternForm, fold_out-Pattern, map-PatternForm}
 use Rattle.hl_syntax.specs.declared.tree.PatternForm.TheVariants as patterns
 use Rattle.simplicity.proofs.Tuples.{halves_map, halves_right, from_right}
-use Rattle.simplicity.specs.Tuples.{halves, tuple_kind, copies_kind}
+use Rattle.simplicity.specs.Tuples.{halves, tuple_kind}
 use Rattle.simplicity.specs.Types.{Kind, One, Product}
 use Rattle.simplicityhl.specs.Kinds.{form}
 use Rattle.hl_rules.specs.Places.{Scope}
 use Rattle.hl_typing.specs.Patterns as rule
 use Rattle.hl_typing.specs.Patterns.{Matched, PatternAt, PatternsAt, Binds}
-use Rattle.hl_terms.specs.Shapes.{Shape, Ignored, Variable, Both, Shaping, kind_of, variables_of, witnesses_of, joined, each_at, in_tuple, in_array, pattern_step, pattern_shape}
+use Rattle.hl_terms.specs.Shapes.{Shape, Ignored, Both, Shaping, kind_of, variables_of, witnesses_of, joined, each_at, in_tuple, in_array, pattern_step, pattern_shape}
 use Rattle.hl_term_laws.proofs.Encoded.{form_at}
 
 -- a shape with its names and its type, in which no witness is bound
@@ -60,7 +58,7 @@ together parts names ks b =
     let s : whole.shape ≡ joined parts = halves_map (λ (b : Bit). b.shape) nothing both (Ignored One) Both refl (λ a b. refl) b.bits ∙ ap joined b.parts_are in
     let k : whole.kind ≡ tuple_kind ks = halves_map (λ (b : Bit). b.kind) nothing both One Product refl (λ a b. refl) b.bits ∙ ap tuple_kind b.kinds_are in
     let n : whole.names ≡ names =
-        halves_map (λ (b : Bit). b.names) nothing both [] ◌++◌ refl (λ a b. refl) b.bits ∙ halves_right [] ◌++◌ append_assoc (λ a. refl) append-nil (map (λ (b : Bit). b.names) b.bits) ∙ b.names_are in
+    halves_map (λ (b : Bit). b.names) nothing both [] ◌++◌ refl (λ a b. refl) b.bits ∙ halves_right [] ◌++◌ append_assoc (λ a. refl) append-nil (map (λ (b : Bit). b.names) b.bits) ∙ b.names_are in
     subst (λ s. Holds s names (tuple_kind ks)) s (record { names_are = whole.holds.names_are ∙ n; kind_is = whole.holds.kind_is ∙ k; bare = whole.holds.bare })
 
 abbrev form_shape : PatternForm → Shaping
@@ -80,13 +78,15 @@ Claim (PatternsAt ks ps) names = (length ps ≡ length ks) × Bits (each_at (map
 
 more_bound : (k : HlType) (ks : List HlType) (p : Pattern) (ps : List Pattern) (names more : Scope) → Claim (PatternAt k p.form) names → Claim (PatternsAt ks ps) more →
     Claim (PatternsAt (k ∷ ks) (p ∷ ps)) (names ++ more)
-more_bound k ks p ps names more h i =
-    (ap suc i.0, record {
-      bits = record { shape = form_shape p.form k; names = names; kind = form k; holds = h } ∷ i.1.bits;
-      parts_are = ap (λ s. s ∷ map (λ (b : Bit). b.shape) i.1.bits) (sym (pattern_is p k)) ∙ ap (λ l. pattern_shape p k ∷ l) i.1.parts_are;
-      names_are = ap (λ l. names ++ l) i.1.names_are;
-      kinds_are = ap (λ l. form k ∷ l) i.1.kinds_are;
-    })
+more_bound k ks p ps names more h i = (
+  ap suc i.0,
+  record {
+    bits = record { shape = form_shape p.form k; names = names; kind = form k; holds = h } ∷ i.1.bits;
+    parts_are = ap (λ s. s ∷ map (λ (b : Bit). b.shape) i.1.bits) (sym (pattern_is p k)) ∙ ap (λ l. pattern_shape p k ∷ l) i.1.parts_are;
+    names_are = ap (λ l. names ++ l) i.1.names_are;
+    kinds_are = ap (λ l. form k ∷ l) i.1.kinds_are;
+  },
+)
 
 tuple_bound : (ks : List HlType) (ps : List Pattern) (names : Scope) → Claim (PatternsAt ks ps) names → Claim (PatternAt (kind.Tuple ks) (patterns.Tuple ps)) names
 tuple_bound ks ps names h =

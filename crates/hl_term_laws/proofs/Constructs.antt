@@ -1,5 +1,5 @@
 -- Each construct computes its meaning where its parts do.
-use Rattle.std.proofs.Common.{◌≡◌, ℕ, zero, suc, replicate, ◌^◌, ◌<◌, Bool, true, false, ◌&&◌, nat_lt, List, [], ◌∷◌, ◌++◌, map, Option, Some, None, option_map, refl, sym, ap, ◌∙◌, subst, IsTrue, lt-ltb}
+use Rattle.std.proofs.Common.{◌≡◌, ℕ, zero, suc, replicate, ◌^◌, ◌<◌, Bool, true, false, ◌&&◌, List, [], ◌∷◌, ◌++◌, map, Option, Some, None, option_map, refl, sym, ap, ◌∙◌, subst, IsTrue, lt-ltb}
 use Rattle.std.specs.Prelude.{option_and_then, if◌then◌else◌}
 use Rattle.hl_data.specs.declared.typed.TypedSide.{TypedSide}
 use Rattle.hl_data.specs.declared.typed.TypedSide.TheVariants as sides
@@ -16,19 +16,19 @@ use Rattle.hl_syntax.specs.declared.kinds.TypedName.{TypedName}
 use Rattle.hl_meaning.specs.Answer.{Answer, gives, fails, stuck, and_then, shaped, known}
 use Rattle.hl_meaning.specs.Loops.{Calls, folded}
 use Rattle.hl_meaning.specs.Literals.{literal_value}
-use Rattle.hl_meaning.specs.Mean.{Function, Meaning, ArmMeaning, all_in, made_of, taking, asserted, unwrapped, unwrapped_left, unwrapped_right, none_tested, number_at, converted, are_alike, matched, empty}
+use Rattle.hl_meaning.specs.Mean.{Meaning, ArmMeaning, all_in, made_of, taking, asserted, unwrapped, unwrapped_left, unwrapped_right, none_tested, number_at, converted, are_alike, matched, empty}
 use Rattle.hl_meaning.specs.Scopes.{Binding, meant, bound}
-use Rattle.hl_meaning.specs.Values.{encoded, decoded, at_each, word_of, word_at, is_sound, same_kind}
+use Rattle.hl_meaning.specs.Values.{encoded, decoded, at_each, word_at, is_sound, same_kind}
 use Rattle.simplicity.specs.Canon.{Declared, erased}
 use Rattle.simplicity.specs.Terms as bare
 use Rattle.simplicity.specs.Terms.{meaning, paired, on_tag, on_first as at_first, on_second as at_second}
 use Rattle.simplicity.specs.Tuples.{tuple_value, tuple_kind}
-use Rattle.simplicity.specs.Types.{Kind, One, Sum, Product, Value, UnitValue, Inl, Inr, Pair, word_kind, word_value}
-use Rattle.simplicity.specs.Widths.{level_of, word_of_width}
-use Rattle.simplicityhl.specs.Kinds.{form, form_step, IsSound}
+use Rattle.simplicity.specs.Types.{Kind, One, Sum, Product, Value, UnitValue, Inl, Inr, Pair, word_value}
+use Rattle.simplicity.specs.Widths.{level_of}
+use Rattle.simplicityhl.specs.Kinds.{form, form_step}
 use Rattle.simplicity.specs.Arrows.{IsTypedTerm}
 use Rattle.simplicity.specs.Arrows as row
-use Rattle.hl_term_laws.specs.Renders.{Encodes, Computes, Scoped, ScopedIgnored, ScopedBoth, Renders, AreGiven, RendersLoop, over_items, Recodes}
+use Rattle.hl_term_laws.specs.Renders.{Computes, Scoped, ScopedIgnored, ScopedBoth, Renders, AreGiven, RendersLoop, over_items, Recodes}
 use Rattle.simplicity.specs.Arrows.{source, target}
 use Rattle.simplicity.specs.Makes.{iden, unit, comp, pair, on_first, on_second, to_left, to_right, by_tag, only_left, only_right, word, fail, tuple, zero_bytes}
 use Rattle.hl_terms.specs.Shapes.{Shape, Ignored, Both, kind_of, variables_of, pattern_shape}
@@ -36,7 +36,7 @@ use Rattle.hl_terms.specs.Paths.{variable_term}
 use Rattle.hl_rules.specs.Places.{variable_type}
 use Rattle.hl_terms.specs.Translated as made
 use Rattle.hl_terms.specs.Translated.{or_fail, literal_at, side_shape, is_left}
-use Rattle.hl_term_laws.proofs.Encoded.{form_at, opened, bool_of, option_of, either_of, BoolOf, OfBool, OptionOf, OfNothing, OfSome, EitherOf, OfLeft, OfRight, enc_bool, enc_nothing, enc_some, enc_left, enc_right, enc_tuple, enc_word, enc_array}
+use Rattle.hl_term_laws.proofs.Encoded.{form_at, bool_of, option_of, either_of, BoolOf, OfBool, OptionOf, OfNothing, OfSome, EitherOf, OfLeft, OfRight, enc_bool, enc_nothing, enc_some, enc_left, enc_right, enc_tuple, enc_word, enc_array}
 use Rattle.hl_term_laws.proofs.Parts.{AreRendered, parts_typed, parts_then}
 use Rattle.hl_term_laws.proofs.Paths.{leads_at}
 use Rattle.hl_term_laws.proofs.Patterns.{pattern_lays}

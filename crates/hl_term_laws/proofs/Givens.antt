@@ -1,5 +1,5 @@
 -- The path of a bound witness leads to the encoding of its value.
-use Rattle.std.proofs.Common.{◌≡◌, ℕ, Bool, true, false, cond, List, [], ◌∷◌, bytes_eq, Option, Some, None, option_map, refl, sym, ap, ◌∙◌, subst}
+use Rattle.std.proofs.Common.{◌≡◌, ℕ, Bool, true, false, cond, List, bytes_eq, Option, Some, None, option_map, refl, sym, ap, ◌∙◌, subst}
 use Rattle.std.proofs.lemmas.Slice.Eq.{bytes_eq-Decides}
 use Rattle.hl_data.specs.declared.value.HlValue.{HlValue}
 use Rattle.hl_syntax.specs.declared.kinds.HlType.{HlType}
@@ -7,11 +7,11 @@ use Rattle.hl_meaning.specs.Scopes.{Binding, meant}
 use Rattle.hl_meaning.specs.Values.{encoded}
 use Rattle.simplicity.specs.Canon.{Declared, erased}
 use Rattle.simplicity.specs.Terms.{meaning}
-use Rattle.simplicity.specs.Types.{Kind, Product, Value, Pair}
+use Rattle.simplicity.specs.Types.{Product, Value}
 use Rattle.simplicityhl.specs.Kinds.{form}
 use Rattle.simplicity.specs.Arrows.{IsTypedTerm}
 use Rattle.simplicity.specs.Arrows as row
-use Rattle.hl_term_laws.specs.Renders.{Scoped, ScopedIgnored, ScopedVariable, ScopedWitness, ScopedBoth}
+use Rattle.hl_term_laws.specs.Renders.{Scoped, ScopedWitness, ScopedBoth}
 use Rattle.simplicity.specs.Arrows.{source, target}
 use Rattle.simplicity.specs.Makes.{iden, on_first, on_second}
 use Rattle.hl_terms.specs.Shapes.{Shape, Ignored, Variable, Witness, Both, kind_of, witnesses_of}

@@ -1,5 +1,5 @@
 -- A path in two parts is the path in the first that has one, and the type of a name among two lists is that in the first that has it.
-use Rattle.std.proofs.Common.{◌≡◌, ℕ, Bool, true, false, cond, List, [], ◌∷◌, ◌++◌, bytes_eq, find, Option, Some, None, option_map, refl}
+use Rattle.std.proofs.Common.{◌≡◌, ℕ, true, false, cond, List, [], ◌∷◌, ◌++◌, bytes_eq, find, Option, Some, None, option_map, refl}
 use Rattle.hl_syntax.specs.declared.kinds.HlType.{HlType}
 use Rattle.hl_syntax.specs.declared.kinds.TypedName.{TypedName}
 use Rattle.simplicity.specs.Canon.{Declared}
@@ -34,6 +34,6 @@ pub both_type : (xs ys : List TypedName) (name : List ℕ) → variable_type (xs
 both_type [] ys name = refl
 both_type (x ∷ xs) ys name = elim (bytes_eq name x.name) as (λ t. option_map (λ (k : TypedName). k.kind) (cond t (Some x) (find (λ k. bytes_eq name k.name) (xs ++ ys)))
     ≡ first_type (option_map (λ (k : TypedName). k.kind) (cond t (Some x) (find (λ k. bytes_eq name k.name) xs))) (variable_type ys name)) [
-  | true ↦ refl
-  | false ↦ both_type xs ys name
-]
+      | true ↦ refl
+      | false ↦ both_type xs ys name
+    ]

@@ -1,5 +1,5 @@
 -- A list computes its meaning where its items do.
-use Rattle.std.proofs.Common.{◌≡◌, ℕ, zero, suc, ◌*◌, ◌^◌, ◌<◌, Bool, true, false, nat_lt, List, [], ◌∷◌, length, take, drop, map, replicate, Option, Some, None, option_map, refl, sym, ap, ◌∙◌, subst, arith, ltb-true, length-drop}
+use Rattle.std.proofs.Common.{◌≡◌, ℕ, zero, suc, ◌*◌, ◌^◌, ◌<◌, true, false, nat_lt, List, [], ◌∷◌, length, take, drop, map, replicate, Option, Some, option_map, refl, sym, ap, ◌∙◌, subst, arith, ltb-true, length-drop}
 use Rattle.std.specs.Prelude.{if◌then◌else◌}
 use Rattle.std.proofs.lemmas.Bool.{ltb-false}
 use Rattle.std.proofs.lemmas.List.{length-map}
@@ -17,11 +17,11 @@ use Rattle.hl_meaning.specs.Values.{list_value}
 use Rattle.simplicity.specs.Canon.{Declared, erased}
 use Rattle.simplicity.specs.Terms.{meaning}
 use Rattle.simplicity.specs.Tuples.{tuple_value}
-use Rattle.simplicity.specs.Types.{Kind, Value, UnitValue, Inl, Inr, Pair}
+use Rattle.simplicity.specs.Types.{Value, UnitValue, Inl, Inr, Pair}
 use Rattle.simplicityhl.specs.Kinds.{form, bound_level}
 use Rattle.hl_term_laws.specs.Renders.{Computes, Renders}
 use Rattle.hl_terms.specs.Shapes.{Shape, kind_of}
-use Rattle.hl_terms.specs.Translated.{list_term, list_at}
+use Rattle.hl_terms.specs.Translated.{list_at}
 use Rattle.hl_term_laws.proofs.Encoded.{form_at, enc_list}
 use Rattle.hl_term_laws.proofs.Lists.{answer_list, list_meaning, some_list, none_list, AreItems, list_right}
 use Rattle.hl_term_laws.proofs.Parts.{AreRendered, ComputesAll, parts_compute}

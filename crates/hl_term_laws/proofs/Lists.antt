@@ -1,5 +1,5 @@
 -- The term of a list, from the terms of its items.
-use Rattle.std.proofs.Common.{◌≡◌, ℕ, zero, suc, ◌+◌, ◌-◌, ◌*◌, ◌^◌, ◌<◌, ◌≤◌, Bool, true, false, ◌||◌, nat_lt, List, [], ◌∷◌, ◌++◌, length, take, drop, map, replicate, Option, Some, None, option_map, refl, sym, ap, ◌∙◌, subst, arith, ltb-true, length-take, length-drop}
+use Rattle.std.proofs.Common.{◌≡◌, ℕ, zero, suc, ◌*◌, ◌^◌, ◌<◌, Bool, true, false, ◌||◌, nat_lt, List, [], ◌∷◌, ◌++◌, length, take, drop, map, replicate, Option, Some, None, option_map, refl, sym, ap, ◌∙◌, arith, ltb-true, length-take, length-drop}
 use Rattle.std.specs.Prelude.{if◌then◌else◌}
 use Rattle.std.proofs.lemmas.Bool.{ltb-false}
 use Rattle.std.proofs.lemmas.List.{length-map}
@@ -7,7 +7,7 @@ use Rattle.std.proofs.Math.Nat.{pow-succ'}
 use Rattle.hl_meaning.specs.Values.{list_value}
 use Rattle.simplicity.specs.Canon.{Declared, erased}
 use Rattle.simplicity.specs.Terms.{meaning, and_then, paired}
-use Rattle.simplicity.specs.Tuples.{tuple_value, tuple_kind, copies_kind}
+use Rattle.simplicity.specs.Tuples.{tuple_value, copies_kind}
 use Rattle.simplicity.specs.Types.{Kind, One, Sum, Product, Value, UnitValue, Inl, Inr, Pair}
 use Rattle.simplicityhl.specs.Kinds.{list_kind}
 use Rattle.simplicity.specs.Arrows.{IsTypedTerm}
@@ -17,7 +17,7 @@ use Rattle.simplicity.specs.Makes.{unit, pair, to_left, to_right, tuple}
 use Rattle.hl_terms.specs.Translated.{list_term}
 use Rattle.simplicity.proofs.Tuples.{take_map, drop_map}
 use Rattle.std.proofs.lemmas.List.{take-append-drop}
-use Rattle.hl_term_laws.proofs.Parts.{any_none, is_none, answer_tuple, none_fails, all_some, tuple_meaning, or_assoc, Piece, Pieces, TupleRight, tuple_right}
+use Rattle.hl_term_laws.proofs.Parts.{any_none, is_none, answer_tuple, none_fails, all_some, tuple_meaning, or_assoc, Pieces, tuple_right}
 use Rattle.simplicity.proofs.Arrows.{typed_pair, typed_left, typed_right}
 
 abbrev to_some : Option Value → Option Value

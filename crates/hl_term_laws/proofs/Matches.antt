@@ -1,5 +1,5 @@
 -- The sides of a typed match: what their shapes have, and which of the two is on the left.
-use Rattle.std.proofs.Common.{◌≡◌, ℕ, true, false, List, [], refl, sym, subst}
+use Rattle.std.proofs.Common.{◌≡◌, true, false, [], refl, sym, subst}
 use Rattle.hl_data.specs.declared.typed.TypedSide.{TypedSide}
 use Rattle.hl_data.specs.declared.typed.TypedSide.TheVariants as sides
 use Rattle.hl_syntax.specs.declared.kinds.HlType.{HlType}

@@ -1,7 +1,6 @@
 -- The term of a value gives its encoding.
-use Rattle.std.proofs.Common.{◌≡◌, ℕ, zero, suc, ◌*◌, ◌^◌, ◌<◌, Bool, true, false, ◌&&◌, nat_lt, nat_eq, eqb-true, List, [], ◌∷◌, length, take, drop, map, replicate, Option, Some, None, option_map, refl, sym, ap, ◌∙◌, subst, arith, ltb-true, length-drop}
+use Rattle.std.proofs.Common.{◌≡◌, ℕ, zero, suc, ◌^◌, ◌<◌, Bool, true, false, ◌&&◌, nat_lt, nat_eq, eqb-true, List, [], ◌∷◌, length, take, drop, map, replicate, Option, Some, None, option_map, refl, sym, ap, ◌∙◌, subst, arith, ltb-true, length-drop}
 use Rattle.std.specs.Prelude.{if◌then◌else◌, option_and_then}
-use Rattle.std.proofs.lemmas.Bool.{ltb-false}
 use Rattle.std.proofs.lemmas.List.{length-map}
 use Rattle.std.proofs.Math.Nat.{pow-succ'}
 use Rattle.hl_data.specs.declared.value.HlValue.{HlValue, map-HlValue}
@@ -15,7 +14,7 @@ use Rattle.hl_syntax.specs.declared.kinds.TypedName.{TypedName}
 use Rattle.jets.specs.Unsigned.{Unsigned}
 use Rattle.hl_meaning.specs.Answer.{gives}
 use Rattle.hl_meaning.specs.Scopes.{Binding}
-use Rattle.hl_meaning.specs.Values.{Encoding, encoded, encode_step, encode_at, at_each, at_all, list_value, is_number_of, beside}
+use Rattle.hl_meaning.specs.Values.{Encoding, encoded, encode_step, encode_at, at_each, at_all, list_value, is_number_of}
 use Rattle.simplicity.specs.Canon.{Declared, erased}
 use Rattle.simplicity.specs.Terms.{meaning}
 use Rattle.simplicity.specs.Tuples.{tuple_value, tuple_kind, copies_kind}
@@ -29,10 +28,10 @@ use Rattle.simplicity.specs.Arrows.{source, target}
 use Rattle.simplicity.specs.Makes.{unit, comp, word, to_left, to_right, tuple}
 use Rattle.hl_terms.specs.Shapes.{Shape, kind_of}
 use Rattle.hl_terms.specs.Translated.{ValueTerm, value_term, value_at, each_value, all_values, list_term}
-use Rattle.hl_term_laws.proofs.Encoded.{form_at, some_same, Mapped, mapped}
+use Rattle.hl_term_laws.proofs.Encoded.{form_at, some_same, mapped}
 use Rattle.hl_term_laws.proofs.Lists.{answer_list, list_meaning, some_list, AreItems, list_right}
-use Rattle.hl_term_laws.proofs.Parts.{Piece, Pieces, TupleRight, tuple_right, answer_tuple, all_some, tuple_meaning}
-use Rattle.hl_term_laws.proofs.Patterns.{Besides, besides}
+use Rattle.hl_term_laws.proofs.Parts.{Piece, Pieces, tuple_right, answer_tuple, all_some, tuple_meaning}
+use Rattle.hl_term_laws.proofs.Patterns.{besides}
 use Rattle.simplicity.proofs.Arrows.{typed_comp, typed_left, typed_right}
 
 -- a term that gives one value on each input of a type

@@ -1,13 +1,10 @@
 -- Parts of a tuple: their terms together are the term of the tuple.
-use Rattle.std.proofs.Common.{◌≡◌, ℕ, Bool, true, false, ◌||◌, List, [], ◌∷◌, length, map, Option, Some, None, refl, sym, ap, ◌∙◌, subst}
+use Rattle.std.proofs.Common.{◌≡◌, Bool, true, false, ◌||◌, List, [], ◌∷◌, length, map, Option, Some, None, refl, sym, ap, ◌∙◌, subst}
 use Rattle.hl_data.specs.declared.value.HlValue.{HlValue}
-use Rattle.hl_data.specs.declared.value.HlValue.TheVariants as value
-use Rattle.hl_syntax.specs.declared.kinds.HlType.{HlType, map-HlType}
-use Rattle.hl_syntax.specs.declared.kinds.HlType.TheOpen.{HlType-F}
-use Rattle.hl_syntax.specs.declared.kinds.HlType.TheViews.{out-HlType}
+use Rattle.hl_syntax.specs.declared.kinds.HlType.{HlType}
 use Rattle.hl_syntax.specs.declared.kinds.TypedName.{TypedName}
 use Rattle.hl_meaning.specs.Answer.{Answer, gives, fails, stuck, and_then}
-use Rattle.hl_meaning.specs.Mean.{Meaning, all_in, made_of}
+use Rattle.hl_meaning.specs.Mean.{Meaning, all_in}
 use Rattle.hl_meaning.specs.Scopes.{Binding}
 use Rattle.hl_meaning.specs.Values.{encoded, at_each, beside}
 use Rattle.simplicity.specs.Canon.{Declared, erased}
@@ -18,7 +15,7 @@ use Rattle.simplicity.specs.Types.{Kind, One, Product, Value, UnitValue, Pair}
 use Rattle.simplicityhl.specs.Kinds.{form}
 use Rattle.simplicity.specs.Arrows.{IsTypedTerm}
 use Rattle.simplicity.specs.Arrows as row
-use Rattle.hl_term_laws.specs.Renders.{Encodes, Computes, Scoped, Renders, AreGiven}
+use Rattle.hl_term_laws.specs.Renders.{Computes, Scoped, Renders, AreGiven}
 use Rattle.simplicity.specs.Arrows.{source, target}
 use Rattle.simplicity.specs.Makes.{unit, pair, tuple}
 use Rattle.hl_terms.specs.Shapes.{Shape, kind_of}

@@ -5,7 +5,7 @@ use Rattle.hl_meaning.specs.Scopes.{Binding}
 use Rattle.hl_meaning.specs.Values.{encoded}
 use Rattle.simplicity.specs.Canon.{Declared, erased}
 use Rattle.simplicity.specs.Terms.{meaning}
-use Rattle.simplicity.specs.Types.{Kind, Product, Value, Pair}
+use Rattle.simplicity.specs.Types.{Kind, Product, Value}
 use Rattle.simplicityhl.specs.Kinds.{form}
 use Rattle.simplicity.specs.Arrows.{IsTypedTerm}
 use Rattle.simplicity.specs.Arrows as row

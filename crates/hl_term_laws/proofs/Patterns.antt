@@ -1,6 +1,6 @@
 -- What a pattern binds in a value stands at the places of the value's encoding.
 use Rattle.std.specs.Prelude.{if◌then◌else◌}
-use Rattle.std.proofs.Common.{◌≡◌, ℕ, nat_eq, Bool, true, false, List, [], ◌∷◌, ◌++◌, length, map, Option, Some, None, option_map, refl, sym, ap, ◌∙◌, subst, append_assoc, append-nil}
+use Rattle.std.proofs.Common.{◌≡◌, nat_eq, Bool, true, false, List, [], ◌∷◌, ◌++◌, length, map, Option, Some, None, option_map, refl, sym, ap, ◌∙◌, subst, append_assoc, append-nil}
 use Rattle.hl_data.specs.declared.value.HlValue.{HlValue}
 use Rattle.hl_data.specs.declared.value.HlValue.TheOpen.{HlValue-F}
 use Rattle.hl_data.specs.declared.value.HlValue.TheViews.{out-HlValue}
@@ -15,14 +15,14 @@ use Rattle.hl_meaning.specs.Scopes as scopes
 use Rattle.hl_syntax.specs.declared.kinds.TypedName.{TypedName}
 use Rattle.hl_meaning.specs.Mean.{named, scope_of}
 use Rattle.hl_meaning.specs.Scopes.{Binding, Binder, bound, each_bound}
-use Rattle.hl_meaning.specs.Values.{beside, encoded, at_each, at_all, all_there}
+use Rattle.hl_meaning.specs.Values.{beside, encoded, at_each, at_all}
 use Rattle.simplicity.specs.Tuples.{halves, tuple_value}
 use Rattle.simplicity.specs.Types.{Kind, One, Value, UnitValue, Pair}
 use Rattle.simplicityhl.specs.Kinds.{form}
 use Rattle.hl_term_laws.specs.Renders.{Scoped, ScopedIgnored, ScopedVariable, ScopedBoth}
 use Rattle.hl_terms.specs.Shapes.{Shape, Ignored, Variable, Both, Shaping, joined, each_at, params_shape, in_tuple, in_array, pattern_step, pattern_shape}
 use Rattle.simplicity.proofs.Tuples.{halves_map, halves_right, from_right}
-use Rattle.hl_term_laws.proofs.Encoded.{opened, layer_value, some_same, Mapped, mapped}
+use Rattle.hl_term_laws.proofs.Encoded.{opened, layer_value, some_same, mapped}
 
 pub record Besides {A B C : Type 0} (join : A → B → C) (a : Option A) (b : Option B) (z : C) : Type 0 where
   pub first : A

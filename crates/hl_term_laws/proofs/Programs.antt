@@ -1,5 +1,5 @@
 -- The terms of the functions of a typed program render what these mean, in both editions.
-use Rattle.std.proofs.Common.{◌≡◌, ℕ, zero, suc, ◌+◌, Bool, true, false, ◌&&◌, not, nat_eq, cond, List, [], ◌∷◌, ◌++◌, length, map, find, bytes_eq, Option, Some, None, option_map, refl, sym, ap, ◌∙◌, subst, IsTrue, arith, append_assoc, append-nil}
+use Rattle.std.proofs.Common.{◌≡◌, ℕ, suc, ◌+◌, Bool, true, false, ◌&&◌, not, nat_eq, cond, List, [], ◌∷◌, ◌++◌, length, map, find, bytes_eq, Option, Some, None, option_map, refl, sym, ap, ◌∙◌, subst, arith, append_assoc, append-nil}
 use Rattle.std.specs.Prelude.{if◌then◌else◌, slice_get}
 use Rattle.std.proofs.lemmas.Slice.Eq.{bytes_eq-Decides}
 use Rattle.hl_data.specs.declared.typed.TypedFunction.{TypedFunction}
@@ -7,15 +7,14 @@ use Rattle.hl_data.specs.declared.value.HlValue.{HlValue}
 use Rattle.hl_syntax.specs.declared.kinds.HlType.{HlType}
 use Rattle.hl_syntax.specs.declared.kinds.TypedName.{TypedName}
 use Rattle.simplicity.proofs.Arrows.{typed_comp, typed_pair}
-use Rattle.simplicity.proofs.Tuples.{halves_map, from_right}
 use Rattle.simplicity.specs.Arrows as row
 use Rattle.simplicity.specs.Arrows.{source, target, IsTypedTerm}
 use Rattle.simplicity.specs.Canon.{Declared, erased}
-use Rattle.simplicity.specs.Makes.{iden, comp, pair, tuple, witness}
+use Rattle.simplicity.specs.Makes.{iden, pair, witness}
 use Rattle.simplicity.specs.Terms as bare
 use Rattle.simplicity.specs.Terms.{meaning, paired}
-use Rattle.simplicity.specs.Tuples.{tuple_value, tuple_kind}
-use Rattle.simplicity.specs.Types.{Kind, One, Product, Value, UnitValue, Pair}
+use Rattle.simplicity.specs.Tuples.{tuple_value}
+use Rattle.simplicity.specs.Types.{Kind, Product, Value, Pair}
 use Rattle.simplicityhl.specs.Kinds.{form}
 use Rattle.hl_meaning.specs.Answer.{shaped, known}
 use Rattle.hl_meaning.specs.Mean as means
@@ -30,15 +29,15 @@ use Rattle.hl_typing.specs.Typing.{Around, Typed, ExprAt}
 use Rattle.hl_terms.specs.Paths.{witness_term}
 use Rattle.hl_terms.specs.Programs as made
 use Rattle.hl_terms.specs.Programs.{plain_term, bound_term, witness_leaves, witness_tuple, binds_witnesses, function_body, function_term, program_terms}
-use Rattle.hl_terms.specs.Shapes.{Shape, Ignored, Variable, Witness, Both, kind_of, variables_of, witnesses_of, params_shape, witnesses_shape}
+use Rattle.hl_terms.specs.Shapes.{Shape, Witness, Both, kind_of, variables_of, witnesses_of, params_shape, witnesses_shape}
 use Rattle.hl_terms.specs.Translated.{Expansions, FunctionTerm, translated, witness_or, witness_number}
-use Rattle.hl_term_laws.specs.Laws.{AllRendered, BindsWitnesses, binds_all, binds_none, ExpressionsRender, FunctionsRender}
-use Rattle.hl_term_laws.specs.Renders.{Computes, Scoped, ScopedWitness, ScopedBoth, Renders, RendersFunction, Runs, IsGiven, AreGiven, JetsRendered, LoopsRendered, Recodes}
+use Rattle.hl_term_laws.specs.Laws.{AllRendered, binds_all, binds_none, ExpressionsRender, FunctionsRender}
+use Rattle.hl_term_laws.specs.Renders.{Computes, ScopedWitness, ScopedBoth, Renders, RendersFunction, IsGiven, AreGiven, JetsRendered, LoopsRendered, Recodes}
 use Rattle.hl_term_laws.proofs.Bodies.{Setting, Over, renders}
 use Rattle.hl_term_laws.proofs.Called.{called}
 use Rattle.hl_term_laws.proofs.Givens.{holds_at, not_given}
-use Rattle.hl_term_laws.proofs.Parts.{Piece, Pieces, TupleRight, tuple_right, answer_tuple, all_some, tuple_meaning}
-use Rattle.hl_term_laws.proofs.Patterns.{Laid, Laids, together, params_scoped}
+use Rattle.hl_term_laws.proofs.Parts.{Pieces, tuple_right, answer_tuple, all_some, tuple_meaning}
+use Rattle.hl_term_laws.proofs.Patterns.{Laids, together, params_scoped}
 use Rattle.hl_term_laws.proofs.Tuples.{params_hold, witnesses_hold}
 
 -- Witnesses.
@@ -258,7 +257,7 @@ module _ (x : Expansions) (edition : ℕ) (witnesses : List TypedName) (given : 
           runs = λ told vs cs e.
               let first = firsts given [] w witnesses told in
               let is : meaning (erased ws) w (tuple_value cs) ≡ Some (tuple_value first.cores) =
-                  tuple_meaning a w (tuple_value cs) (witness_leaves a 0 witnesses) ∙ ap answer_tuple (answers given w a (tuple_value cs) 0 witnesses first.cores first.are) ∙ all_some first.cores in
+              tuple_meaning a w (tuple_value cs) (witness_leaves a 0 witnesses) ∙ ap answer_tuple (answers given w a (tuple_value cs) 0 witnesses first.cores first.are) ∙ all_some first.cores in
               subst (λ o. Computes f.result (shaped (scope_of f.params vs) (mean gs given f.body)) (bare.and_then (paired o (Some (tuple_value cs))) (meaning (erased t) w))) (sym is)
               (bound_run t first.cores vs cs (scope_of f.params vs) first.are refl e r told);
         }
