@@ -1,0 +1,16 @@
+//! Rows of a table of terms for each way to make a term from others: which row may be added, and that
+//! it means what is made. The functions below have no body, and their contracts are the laws.
+#![tactic(auto)]
+
+ghost use Rattle.term_makers.specs.Made.{ArrowsAreTold, RowsAreMade};
+
+/// The ids of the source and the target of a row mean the source and the target of its term.
+pub fn arrows_are_told_law()
+    ensures { ArrowsAreTold }
+{}
+
+/// A row of this node and these types may be added to the table, and means the term that is made of
+/// the terms of its children.
+pub fn rows_are_made_law()
+    ensures { RowsAreMade }
+{}
