@@ -68,57 +68,57 @@ module _ (kinds : List Kind) (rows : List TermRow) where
   as_term : (n : Node) (a b : ℕ) (k l : Kind) → Means kinds a k → Means kinds b l → row_term kinds (terms kinds rows) (row_of n a b) ≡ node_term (terms kinds rows) n (arrow k l)
   as_term n a b k l s t = ap (λ j. node_term (terms kinds rows) n (arrow j (kind_at kinds b))) s.is ∙ ap (λ j. node_term (terms kinds rows) n (arrow k j)) t.is
 
-  comp_made : (i j a b c d : ℕ) → HasArrow kinds rows i a b → HasArrow kinds rows j c d → target (at i) ≡ source (at j) → Made kinds rows (row_of (code.Comp i j) a d) (comp (at i) (at j))
+  pub comp_made : (i j a b c d : ℕ) → HasArrow kinds rows i a b → HasArrow kinds rows j c d → target (at i) ≡ source (at j) → Made kinds rows (row_of (code.Comp i j) a d) (comp (at i) (at j))
   comp_made i j a b c d h g meets = record {
     follows = comp_follows kinds rows a d i j (at i) (at j) (source (at i)) (target (at i)) (target (at j)) (child i a b h) (child j c d g) refl (starts (at j) (target (at i)) (sym meets)) h.source g.target;
     means = as_term (code.Comp i j) a d (source (at i)) (target (at j)) h.source g.target;
   }
 
-  pair_made : (i j a b c d both : ℕ) → HasArrow kinds rows i a b → HasArrow kinds rows j c d → source (at j) ≡ source (at i) → Means kinds both (Product (target (at i)) (target (at j))) →
+  pub pair_made : (i j a b c d both : ℕ) → HasArrow kinds rows i a b → HasArrow kinds rows j c d → source (at j) ≡ source (at i) → Means kinds both (Product (target (at i)) (target (at j))) →
       Made kinds rows (row_of (code.Pair i j) a both) (pair (at i) (at j))
   pair_made i j a b c d both h g meets to = record {
     follows = pair_follows kinds rows a both i j (at i) (at j) (source (at i)) (target (at i)) (target (at j)) (child i a b h) (child j c d g) refl (starts (at j) (source (at i)) meets) h.source to;
     means = as_term (code.Pair i j) a both (source (at i)) (Product (target (at i)) (target (at j))) h.source to;
   }
 
-  tag_made : (i j a b c d tagged : ℕ) (k l m : Kind) → HasArrow kinds rows i a b → HasArrow kinds rows j c d → source (at i) ≡ Product k m → source (at j) ≡ Product l m → target (at j) ≡ target (at i) →
+  pub tag_made : (i j a b c d tagged : ℕ) (k l m : Kind) → HasArrow kinds rows i a b → HasArrow kinds rows j c d → source (at i) ≡ Product k m → source (at j) ≡ Product l m → target (at j) ≡ target (at i) →
       Means kinds tagged (Product (Sum k l) m) → Made kinds rows (row_of (code.Case i j) tagged b) (by_tag k l m (at i) (at j))
   tag_made i j a b c d tagged k l m h g e f same from = record {
     follows = case_follows kinds rows tagged b i j (at i) (at j) k l m (target (at i)) (child i a b h) (child j c d g) (starts (at i) (Product k m) e) (goes (at j) (Product l m) (target (at i)) f same) from h.target;
     means = as_term (code.Case i j) tagged b (Product (Sum k l) m) (target (at i)) from h.target;
   }
 
-  only_left_made : (i a b tagged : ℕ) (k l m : Kind) → HasArrow kinds rows i a b → source (at i) ≡ Product k m → Means kinds tagged (Product (Sum k l) m) → Made kinds rows (row_of (code.AssertL i fail_root) tagged b) (only_left k l m (at i))
+  pub only_left_made : (i a b tagged : ℕ) (k l m : Kind) → HasArrow kinds rows i a b → source (at i) ≡ Product k m → Means kinds tagged (Product (Sum k l) m) → Made kinds rows (row_of (code.AssertL i fail_root) tagged b) (only_left k l m (at i))
   only_left_made i a b tagged k l m h e from = record {
     follows = assertl_follows kinds rows tagged b i (at i) fail_root k l m (target (at i)) (child i a b h) (starts (at i) (Product k m) e) from h.target;
     means = as_term (code.AssertL i fail_root) tagged b (Product (Sum k l) m) (target (at i)) from h.target;
   }
 
-  only_right_made : (i a b tagged : ℕ) (k l m : Kind) → HasArrow kinds rows i a b → source (at i) ≡ Product l m → Means kinds tagged (Product (Sum k l) m) → Made kinds rows (row_of (code.AssertR fail_root i) tagged b) (only_right k l m (at i))
+  pub only_right_made : (i a b tagged : ℕ) (k l m : Kind) → HasArrow kinds rows i a b → source (at i) ≡ Product l m → Means kinds tagged (Product (Sum k l) m) → Made kinds rows (row_of (code.AssertR fail_root i) tagged b) (only_right k l m (at i))
   only_right_made i a b tagged k l m h e from = record {
     follows = assertr_follows kinds rows tagged b i (at i) fail_root k l m (target (at i)) (child i a b h) (starts (at i) (Product l m) e) from h.target;
     means = as_term (code.AssertR fail_root i) tagged b (Product (Sum k l) m) (target (at i)) from h.target;
   }
 
-  first_made : (i a b both : ℕ) (k : Kind) → HasArrow kinds rows i a b → Means kinds both (Product (source (at i)) k) → Made kinds rows (row_of (code.Take i) both b) (on_first k (at i))
+  pub first_made : (i a b both : ℕ) (k : Kind) → HasArrow kinds rows i a b → Means kinds both (Product (source (at i)) k) → Made kinds rows (row_of (code.Take i) both b) (on_first k (at i))
   first_made i a b both k h from = record {
     follows = take_follows kinds rows both b i (at i) (source (at i)) k (target (at i)) (child i a b h) refl from h.target;
     means = as_term (code.Take i) both b (Product (source (at i)) k) (target (at i)) from h.target;
   }
 
-  second_made : (i a b both : ℕ) (k : Kind) → HasArrow kinds rows i a b → Means kinds both (Product k (source (at i))) → Made kinds rows (row_of (code.Drop i) both b) (on_second k (at i))
+  pub second_made : (i a b both : ℕ) (k : Kind) → HasArrow kinds rows i a b → Means kinds both (Product k (source (at i))) → Made kinds rows (row_of (code.Drop i) both b) (on_second k (at i))
   second_made i a b both k h from = record {
     follows = drop_follows kinds rows both b i (at i) k (source (at i)) (target (at i)) (child i a b h) refl from h.target;
     means = as_term (code.Drop i) both b (Product k (source (at i))) (target (at i)) from h.target;
   }
 
-  left_made : (i a b either : ℕ) (k : Kind) → HasArrow kinds rows i a b → Means kinds either (Sum (target (at i)) k) → Made kinds rows (row_of (code.Injl i) a either) (to_left k (at i))
+  pub left_made : (i a b either : ℕ) (k : Kind) → HasArrow kinds rows i a b → Means kinds either (Sum (target (at i)) k) → Made kinds rows (row_of (code.Injl i) a either) (to_left k (at i))
   left_made i a b either k h to = record {
     follows = injl_follows kinds rows a either i (at i) (source (at i)) (target (at i)) k (child i a b h) refl h.source to;
     means = as_term (code.Injl i) a either (source (at i)) (Sum (target (at i)) k) h.source to;
   }
 
-  right_made : (i a b either : ℕ) (k : Kind) → HasArrow kinds rows i a b → Means kinds either (Sum k (target (at i))) → Made kinds rows (row_of (code.Injr i) a either) (to_right k (at i))
+  pub right_made : (i a b either : ℕ) (k : Kind) → HasArrow kinds rows i a b → Means kinds either (Sum k (target (at i))) → Made kinds rows (row_of (code.Injr i) a either) (to_right k (at i))
   right_made i a b either k h to = record {
     follows = injr_follows kinds rows a either i (at i) (source (at i)) k (target (at i)) (child i a b h) refl h.source to;
     means = as_term (code.Injr i) a either (source (at i)) (Sum k (target (at i))) h.source to;

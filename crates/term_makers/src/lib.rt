@@ -4,6 +4,10 @@
 
 ghost use Rattle.term_makers.specs.Made.{ArrowsAreTold, RowsAreMade};
 
+mod makers;
+
+pub use makers::{add_comp, add_iden, add_pair, arrow_of};
+
 /// The ids of the source and the target of a row mean the source and the target of its term.
 pub fn arrows_are_told_law()
     ensures { ArrowsAreTold }
