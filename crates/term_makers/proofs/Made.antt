@@ -46,7 +46,7 @@ told kinds rows id row stands there =
     let m = means_there kinds rows id row stands there in
     let in_table = types_there kinds [] rows id row stands.each there in
     let is : declared_arrow (term_at kinds rows id) ≡ arrow (kind_at kinds row.source) (kind_at kinds row.target) =
-        ap declared_arrow m.is ∙ node_arrow (terms kinds rows) row.node (arrow (kind_at kinds row.source) (kind_at kinds row.target)) in
+    ap declared_arrow m.is ∙ node_arrow (terms kinds rows) row.node (arrow (kind_at kinds row.source) (kind_at kinds row.target)) in
     record {
       within = m.within;
       source = record { within = in_table.0; is = sym (ap (λ (a : Arrow). a.source) is) };
@@ -81,10 +81,10 @@ module _ (kinds : List Kind) (rows : List TermRow) where
     means = as_term (code.Pair i j) a both (source (at i)) (Product (target (at i)) (target (at j))) h.source to;
   }
 
-  pub tag_made : (i j a b c d tagged : ℕ) (k l m : Kind) → HasArrow kinds rows i a b → HasArrow kinds rows j c d → source (at i) ≡ Product k m → source (at j) ≡ Product l m → target (at j) ≡ target (at i) →
+  pub tag_made : (i j a b tagged : ℕ) (k l m : Kind) → HasArrow kinds rows i a b → j < length rows → source (at i) ≡ Product k m → source (at j) ≡ Product l m → target (at j) ≡ target (at i) →
       Means kinds tagged (Product (Sum k l) m) → Made kinds rows (row_of (code.Case i j) tagged b) (by_tag k l m (at i) (at j))
-  tag_made i j a b c d tagged k l m h g e f same from = record {
-    follows = case_follows kinds rows tagged b i j (at i) (at j) k l m (target (at i)) (child i a b h) (child j c d g) (starts (at i) (Product k m) e) (goes (at j) (Product l m) (target (at i)) f same) from h.target;
+  tag_made i j a b tagged k l m h within e f same from = record {
+    follows = case_follows kinds rows tagged b i j (at i) (at j) k l m (target (at i)) (child i a b h) (record { within = within; is = refl }) (starts (at i) (Product k m) e) (goes (at j) (Product l m) (target (at i)) f same) from h.target;
     means = as_term (code.Case i j) tagged b (Product (Sum k l) m) (target (at i)) from h.target;
   }
 

@@ -54,8 +54,8 @@ pub record RowsAreMade : Type 0 where
       Means kinds either (Sum (target (term_at kinds rows i)) k) → Made kinds rows (row_of (node.Injl i) a either) (to_left k (term_at kinds rows i))
   pub to_right : (kinds : List Kind) (rows : List TermRow) (i a b either : ℕ) (k : Kind) → HasArrow kinds rows i a b →
       Means kinds either (Sum k (target (term_at kinds rows i))) → Made kinds rows (row_of (node.Injr i) a either) (to_right k (term_at kinds rows i))
-  pub by_tag : (kinds : List Kind) (rows : List TermRow) (i j a b c d tagged : ℕ) (k l m : Kind) → HasArrow kinds rows i a b →
-      HasArrow kinds rows j c d → source (term_at kinds rows i) ≡ Product k m → source (term_at kinds rows j) ≡ Product l m →
+  pub by_tag : (kinds : List Kind) (rows : List TermRow) (i j a b tagged : ℕ) (k l m : Kind) → HasArrow kinds rows i a b →
+      j < length rows → source (term_at kinds rows i) ≡ Product k m → source (term_at kinds rows j) ≡ Product l m →
       target (term_at kinds rows j) ≡ target (term_at kinds rows i) → Means kinds tagged (Product (Sum k l) m) →
       Made kinds rows (row_of (node.Case i j) tagged b) (by_tag k l m (term_at kinds rows i) (term_at kinds rows j))
   pub only_left : (kinds : List Kind) (rows : List TermRow) (i a b tagged : ℕ) (k l m : Kind) → HasArrow kinds rows i a b →

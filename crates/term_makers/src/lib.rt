@@ -6,7 +6,10 @@ ghost use Rattle.term_makers.specs.Made.{ArrowsAreTold, RowsAreMade};
 
 mod makers;
 
-pub use makers::{add_comp, add_iden, add_pair, arrow_of};
+pub use makers::{
+    add_by_tag, add_comp, add_fail, add_iden, add_on_first, add_on_second, add_only_left,
+    add_only_right, add_pair, add_to_left, add_to_right, add_unit, add_witness, arrow_of,
+};
 
 /// The ids of the source and the target of a row mean the source and the target of its term.
 pub fn arrows_are_told_law()
