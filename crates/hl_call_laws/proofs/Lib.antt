@@ -1,0 +1,3 @@
+pub mod Converted
+pub mod Arguments
+pub mod Calls

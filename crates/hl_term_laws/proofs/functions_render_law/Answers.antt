@@ -1,0 +1,5 @@
+use Rattle.hl_term_laws.proofs.Programs.{functions_render}
+use Rattle.hl_term_laws.proofs.functions_render_law.Goals as goal
+
+pub returns : goal.returns
+returns c = functions_render

@@ -1,0 +1,4 @@
+pub mod Shapes
+pub mod Paths
+pub mod Translated
+pub mod Programs
