@@ -11,7 +11,7 @@ use Rattle.hl_data.specs.declared.typed.TypedStatement.{TypedStatement}
 use Rattle.simplicityhl.specs.Written.{Broken, then_walk}
 use Rattle.hl_rules.specs.Places.{Scope, Context}
 use Rattle.hl_rules.specs.Exprs.{expr_walk, statement_walk, parts_walk, items_walk, statements_walk}
-use Rattle.hl_check.specs.Inner.{IsInner}
+use Rattle.hl_check.specs.Scopes.{IsInner}
 use Rattle.hl_types.proofs.Drops.{drop_item, drop_got, drop_past}
 
 -- what was found, before what the rest gives

@@ -1,4 +1,4 @@
--- The walk of each form and of its parts, where the expressions in it are walked as `Inner` says.
+-- The walk of each form and of its parts, where the expressions in it are walked as `Checking` says.
 use Rattle.std.specs.Prelude.{List, ◌++◌, map, Option, option_map, Result}
 use Rattle.hl_syntax.specs.declared.kinds.HlType.{HlType}
 use Rattle.hl_syntax.specs.declared.kinds.TypedName.{TypedName}
@@ -23,11 +23,11 @@ use Rattle.hl_scope.specs.declared.asked.Asked.{Asked}
 use Rattle.hl_scope.specs.declared.body.Body.{Body}
 use Rattle.hl_scope.specs.declared.refusal.CheckRefusal.{CheckRefusal}
 use Rattle.hl_check.specs.Arms.{arm_walk}
-use Rattle.hl_check.specs.declared.inner.Inner.{Inner}
+use Rattle.hl_check.specs.declared.checking.Checking.{Checking}
 
-module _ {F : Type 0} (inner : Inner F) where
+module _ {F : Type 0} (checking : Checking F) where
   abbrev c : Context
-  c = inner.checker.now
+  c = checking.checker.now
 
   abbrev pub expr_in : Expr → ExprWalk
   expr_in e = expr_walk c e

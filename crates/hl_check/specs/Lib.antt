@@ -1,6 +1,6 @@
 pub mod Arms
 pub mod Forms
-pub mod Inner
 pub mod Knowns
 pub mod Nests
+pub mod Scopes
 pub mod Tells

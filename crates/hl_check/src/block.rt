@@ -2,41 +2,91 @@
 
 ghost use Rattle.std.specs.Prelude.{◌≡◌, ◌∷◌, [], IfOk, OnOk};
 ghost use Rattle.hl_data.specs.declared.typed.TypedForm.{TypedForm};
-ghost use Rattle.hl_rules.specs.Exprs.{statement_walk};
+ghost use Rattle.hl_rules.specs.Exprs.{matched_type, side_walk, statement_walk};
+ghost use Rattle.hl_types.specs.Walks.{AreSound};
 ghost use Rattle.simplicityhl.specs.Kinds.{IsSound};
-ghost use Rattle.hl_scope.specs.Checks.{ChecksAt, ChecksIn, ChecksScoped};
-ghost use Rattle.hl_check.specs.Inner.{IsInner};
-ghost use Rattle.hl_check.specs.Forms.{arm_in, block_form, last_in, let_in, plain_in, statements_in, two_arms_form};
+ghost use Rattle.hl_scope.specs.Checks.{Checks, ChecksAt, ChecksExpr, ChecksIn, ChecksScoped};
+ghost use Rattle.hl_scope.specs.Contexts.{IsSoundSide};
+ghost use Rattle.hl_check.specs.Scopes.{IsInner};
+ghost use Rattle.hl_check.specs.Forms.{arm_in, block_form, expr_in, last_in, let_in, plain_in, statements_in, two_arms_form};
 ghost use Rattle.hl_check.specs.Nests.{Nests};
 
-use crate::inner::Inner;
-use hl_data::{TypedArm, TypedArms, TypedExpr, TypedForm, TypedStatement, TypedStatements};
+use crate::checking::Checking;
+use hl_data::{
+    TypedArm, TypedArms, TypedExpr, TypedForm, TypedSide, TypedStatement, TypedStatements,
+};
 use hl_scope::{
     Asked, Body, CheckRefusal, Checker, are_sides, bind_pattern, copy_pattern, is_unit,
     matched_type, needs, side_at,
 };
-use hl_syntax::{Arm, Expr, HlType, HlTypes, Pattern, Rule, Statement, TypeText, Wanted};
+use hl_syntax::{
+    Aliases, Arm, Expr, HlType, HlTypes, Pattern, Rule, Side, Statement, TypeText, Wanted,
+};
 use lists::Boxed;
 use std::alloc::{AllocError, Global};
+
+/// A `let` statement of a value of a type.
+fn let_statement(
+    alloc: Global,
+    pattern: &Pattern,
+    kind: HlType,
+    value: Boxed<TypedExpr>,
+) -> Result<TypedStatement, AllocError>
+    ensures { IfOk result (λ statement. statement ≡ TypedStatement.Let pattern.now kind value) }
+{
+    let pattern = copy_pattern(alloc, pattern)?;
+    Ok(TypedStatement::Let {
+        pattern,
+        kind,
+        value: value.into_inner(),
+    })
+}
+
+/// The side of an arm with its type, in a box, and the variables that it binds.
+fn boxed_side(
+    alloc: Global,
+    aliases: &Aliases,
+    side: &Side,
+) -> Result<(Boxed<TypedSide>, Wanted), CheckRefusal>
+    requires { AreSound aliases.now }
+    ensures answers { Checks (side_walk aliases.now side.now) result }
+    ensures sound { IfOk result (λ found. IsSoundSide found.0) }
+{
+    let (side, bound) = side_at(alloc, aliases, side)?;
+    Ok((Boxed::new(alloc, side)?, bound))
+}
+
+/// An arm of a match, in a box.
+fn boxed_arm(
+    alloc: Global,
+    side: Boxed<TypedSide>,
+    body: Boxed<TypedExpr>,
+) -> Result<Boxed<TypedArm>, AllocError>
+    ensures { IfOk result (λ arm. arm ≡ record { side = side; body = body }) }
+{
+    let side = side.into_inner();
+    let body = body.into_inner();
+    Ok(Boxed::new(alloc, TypedArm { side, body })?)
+}
 
 /// A match of two arms.
 fn match_form(
     alloc: Global,
-    value: TypedExpr,
-    one: TypedArm,
-    two: TypedArm,
+    value: Boxed<TypedExpr>,
+    one: Boxed<TypedArm>,
+    two: Boxed<TypedArm>,
 ) -> Result<TypedForm, AllocError>
     ensures { IfOk result (λ form. form ≡ TypedForm.Match value (one ∷ two ∷ [])) }
 {
     let mut arms = TypedArms::new(alloc);
-    arms.push(one)?;
-    arms.push(two)?;
-    Ok(TypedForm::Match(Boxed::new(alloc, value)?, arms))
+    arms.push(one.into_inner())?;
+    arms.push(two.into_inner())?;
+    Ok(TypedForm::Match(value, arms))
 }
 
 impl<
     F: Fn(&Checker<'_>, u16, &Expr, &HlType, Rule, &mut Body) -> Result<TypedExpr, CheckRefusal>,
-> Inner<'_, F> {
+> Checking<'_, F> {
     /// A `let` statement, whose variables are in scope from here on.
     #[tactic(auto, using(crate::proofs::Exprs::inner_bound))]
     fn binding(
@@ -54,14 +104,9 @@ impl<
         let kind = self.checker.written(text)?;
         let mut bound = Wanted::new(alloc);
         bind_pattern(alloc, pattern, &kind, &mut bound)?;
-        let pattern = copy_pattern(alloc, pattern)?;
-        let value = self.part(value, &kind, Rule::K6, body)?;
+        let value = self.boxed(value, &kind, body)?;
         body.scope.bind(bound)?;
-        Ok(TypedStatement::Let {
-            pattern,
-            kind,
-            value,
-        })
+        Ok(let_statement(alloc, pattern, kind, value)?)
     }
 
     /// A statement that is no `let`.
@@ -157,14 +202,14 @@ impl<
         Ok(TypedForm::Block(found, end))
     }
 
-    /// The body of an arm, where the variables of its side are in scope.
-    fn arm(
+    /// The body of an arm in a box, where the variables of its side are in scope.
+    fn arm_body(
         &self,
         e: &Expr,
         bound: Wanted,
         expected: &HlType,
         body: &mut Body,
-    ) -> Result<TypedExpr, CheckRefusal>
+    ) -> Result<Boxed<TypedExpr>, CheckRefusal>
         requires nests { Nests self.now.depth (F.pre self.now.expr) (F.post self.now.expr) }
         requires sound { IsSound expected.now }
         ensures gives { ChecksIn (arm_in self.now e.now bound expected.now) result body.old body.new }
@@ -172,9 +217,27 @@ impl<
     {
         let outer = body.scope.len();
         body.scope.bind(bound)?;
-        let found = self.part(e, expected, Rule::K6, body)?;
+        let found = self.boxed(e, expected, body)?;
         body.scope.leave(outer);
         Ok(found)
+    }
+
+    /// What a match with two sides takes apart, in a box.
+    fn taken_apart(
+        &self,
+        e: &Expr,
+        first: &TypedSide,
+        second: &TypedSide,
+        body: &mut Body,
+    ) -> Result<Boxed<TypedExpr>, CheckRefusal>
+        requires nests { Nests self.now.depth (F.pre self.now.expr) (F.post self.now.expr) }
+        requires first { IsSoundSide first.now }
+        requires second { IsSoundSide second.now }
+        ensures gives { ChecksExpr (expr_in self.now e.now) (matched_type first.now second.now) Rule.K6 result body.old body.new }
+        ensures scope { OnOk result (body.new.scope ≡ body.old.scope) }
+    {
+        let kind = matched_type(self.checker.alloc(), first, second)?;
+        self.boxed(e, &kind, body)
     }
 
     /// A match of two arms.
@@ -193,20 +256,13 @@ impl<
     {
         let alloc = self.checker.alloc();
         needs(are_sides(&one.side, &two.side), Rule::K13, asked.span)?;
-        let (first, first_bound) = side_at(alloc, self.checker.aliases(), &one.side)?;
-        let (second, second_bound) = side_at(alloc, self.checker.aliases(), &two.side)?;
-        let kind = matched_type(alloc, &first, &second)?;
-        let value = self.part(e, &kind, Rule::K6, body)?;
-        let first_body = self.arm(&one.body, first_bound, asked.expected, body)?;
-        let second_body = self.arm(&two.body, second_bound, asked.expected, body)?;
-        let one = TypedArm {
-            side: first,
-            body: first_body,
-        };
-        let two = TypedArm {
-            side: second,
-            body: second_body,
-        };
+        let (first, first_bound) = boxed_side(alloc, self.checker.aliases(), &one.side)?;
+        let (second, second_bound) = boxed_side(alloc, self.checker.aliases(), &two.side)?;
+        let value = self.taken_apart(e, first.get(), second.get(), body)?;
+        let first_body = self.arm_body(&one.body, first_bound, asked.expected, body)?;
+        let second_body = self.arm_body(&two.body, second_bound, asked.expected, body)?;
+        let one = boxed_arm(alloc, first, first_body)?;
+        let two = boxed_arm(alloc, second, second_body)?;
         Ok(match_form(alloc, value, one, two)?)
     }
 }

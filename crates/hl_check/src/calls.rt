@@ -1,21 +1,35 @@
 //! Calls of functions and jets.
 
 ghost use Rattle.std.specs.Prelude.{◌≡◌, length, OnOk};
+ghost use Rattle.jet_table.specs.Rows.{row_of};
+ghost use Rattle.hl_rules.specs.Exprs.{jet_result};
+ghost use Rattle.hl_rules.specs.Same.{same_type};
+ghost use Rattle.hl_rules.specs.Steps.{needs};
 ghost use Rattle.hl_types.specs.Walks.{AreSound};
 ghost use Rattle.simplicityhl.specs.Kinds.{IsSound};
-ghost use Rattle.hl_scope.specs.Checks.{ChecksAt, ChecksIn};
+ghost use Rattle.hl_scope.specs.Checks.{Checks, ChecksAt, ChecksIn};
 ghost use Rattle.hl_check.specs.Forms.{arguments_in, call_form, jet_form};
 ghost use Rattle.hl_check.specs.Nests.{Nests};
 
-use crate::inner::Inner;
+use crate::checking::Checking;
 use hl_data::{TypedExpr, TypedExprs, TypedForm};
 use hl_scope::{Asked, Body, CheckRefusal, Checker, argument_types, jet_row, needs, result_type};
 use hl_syntax::{Expr, HlType, Mark, Rule, Wanted};
 use hl_types::same_type;
+use jet_table::JetRow;
+use std::alloc::Global;
+
+/// That the result of a jet is of the type that is asked.
+fn result_fits(alloc: Global, row: &JetRow, asked: Asked<'_>) -> Result<(), CheckRefusal>
+    ensures { Checks (needs (same_type (jet_result (row_of row.now)) asked.expected.now) asked.rule asked.span) result }
+{
+    let given = result_type(alloc, row)?;
+    needs(same_type(&given, asked.expected), asked.rule, asked.span)
+}
 
 impl<
     F: Fn(&Checker<'_>, u16, &Expr, &HlType, Rule, &mut Body) -> Result<TypedExpr, CheckRefusal>,
-> Inner<'_, F> {
+> Checking<'_, F> {
     /// Arguments at the types of parameters, one after the other.
     #[tactic(auto, using(crate::proofs::Exprs::argument_next, crate::proofs::Exprs::no_argument, hl_scope::proofs::Sounds::param_sound))]
     fn arguments(
@@ -55,8 +69,8 @@ impl<
         let f = self.checker.function(name)?;
         needs(parts.len() == f.params.len(), Rule::K11, asked.span)?;
         needs(same_type(&f.result, asked.expected), asked.rule, asked.span)?;
-        let name = name.text.clone()?;
         let found = self.arguments(parts, &f.params, body)?;
+        let name = name.text.clone()?;
         Ok(TypedForm::Call(name, found))
     }
 
@@ -76,10 +90,9 @@ impl<
         let row = jet_row(name)?;
         let kinds = argument_types(self.checker.alloc(), &row)?;
         needs(parts.len() == kinds.len(), Rule::K11, asked.span)?;
-        let given = result_type(self.checker.alloc(), &row)?;
-        needs(same_type(&given, asked.expected), asked.rule, asked.span)?;
-        let name = name.text.clone()?;
+        result_fits(self.checker.alloc(), &row, asked)?;
         let found = self.parts(parts, kinds.as_slice(), body)?;
+        let name = name.text.clone()?;
         Ok(TypedForm::Jet(name, found))
     }
 }

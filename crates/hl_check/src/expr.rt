@@ -8,7 +8,7 @@ ghost use Rattle.hl_scope.specs.Leaves.{false_form, nothing_form, true_form};
 ghost use Rattle.hl_check.specs.Forms.{expr_in, match_form};
 ghost use Rattle.hl_check.specs.Nests.{Nests};
 
-use crate::inner::Inner;
+use crate::checking::Checking;
 use crate::literal::literal;
 use hl_data::{TypedExpr, TypedForm};
 use hl_scope::{Asked, Body, CheckRefusal, Checker, is_bool, needs, option_item};
@@ -17,7 +17,7 @@ use hl_types::copy_type;
 
 impl<
     F: Fn(&Checker<'_>, u16, &Expr, &HlType, Rule, &mut Body) -> Result<TypedExpr, CheckRefusal>,
-> Inner<'_, F> {
+> Checking<'_, F> {
     /// A match, which has two arms.
     fn matching(
         &self,
@@ -137,8 +137,8 @@ impl<
             expected,
             rule,
         };
-        let form = self.form(&e.form, asked, body)?;
         let kind = copy_type(self.checker.alloc(), expected)?;
+        let form = self.form(&e.form, asked, body)?;
         Ok(TypedExpr { kind, form })
     }
 }
@@ -163,7 +163,7 @@ pub(crate) fn expr(
     if depth == 0 {
         return Err(CheckRefusal::OutOfMemory);
     }
-    Inner {
+    Checking {
         checker: &*checker,
         depth: depth - 1,
         expr,

@@ -1,11 +1,12 @@
 //! Loops.
 
-ghost use Rattle.std.specs.Prelude.{◌≡◌, OnOk};
-ghost use Rattle.simplicityhl.specs.Kinds.{IsSound};
-ghost use Rattle.hl_check.specs.Forms.{Folds, FoldsAll, TurnsWhile};
+ghost use Rattle.std.specs.Prelude.{◌≡◌, OnOk, IsTrue};
+ghost use Rattle.simplicityhl.specs.Kinds.{is_bound, is_count, IsSound};
+ghost use Rattle.hl_scope.specs.Checks.{ChecksExpr};
+ghost use Rattle.hl_check.specs.Forms.{Folds, FoldsAll, TurnsWhile, expr_in};
 ghost use Rattle.hl_check.specs.Nests.{Nests};
 
-use crate::inner::Inner;
+use crate::checking::Checking;
 use hl_data::{TypedExpr, TypedForm};
 use hl_scope::{
     Asked, Body, CheckRefusal, Checker, array_type, counted, fold_shape, list_type, needs,
@@ -13,10 +14,47 @@ use hl_scope::{
 };
 use hl_syntax::{Expr, HlType, Mark, Rule};
 use hl_types::{is_list_bound, same_type};
+use lists::Boxed;
 
 impl<
     F: Fn(&Checker<'_>, u16, &Expr, &HlType, Rule, &mut Body) -> Result<TypedExpr, CheckRefusal>,
-> Inner<'_, F> {
+> Checking<'_, F> {
+    /// A list of items of a type, of a bound.
+    fn list_of(
+        &self,
+        list: &Expr,
+        item: &HlType,
+        bound: u32,
+        body: &mut Body,
+    ) -> Result<Boxed<TypedExpr>, CheckRefusal>
+        requires nests { Nests self.now.depth (F.pre self.now.expr) (F.post self.now.expr) }
+        requires item { IsSound item.now }
+        requires bound { IsTrue (is_bound bound) }
+        ensures gives { ChecksExpr (expr_in self.now list.now) (HlType.List item.now bound) Rule.K6 result body.old body.new }
+        ensures scope { OnOk result (body.new.scope ≡ body.old.scope) }
+    {
+        let kind = list_type(self.checker.alloc(), item, bound)?;
+        self.boxed(list, &kind, body)
+    }
+
+    /// An array of so many items of a type.
+    fn array_of(
+        &self,
+        array: &Expr,
+        item: &HlType,
+        count: u32,
+        body: &mut Body,
+    ) -> Result<Boxed<TypedExpr>, CheckRefusal>
+        requires nests { Nests self.now.depth (F.pre self.now.expr) (F.post self.now.expr) }
+        requires item { IsSound item.now }
+        requires count { IsTrue (is_count count) }
+        ensures gives { ChecksExpr (expr_in self.now array.now) (HlType.Array item.now count) Rule.K6 result body.old body.new }
+        ensures scope { OnOk result (body.new.scope ≡ body.old.scope) }
+    {
+        let kind = array_type(self.checker.alloc(), item, count)?;
+        self.boxed(array, &kind, body)
+    }
+
     /// `fold::<name, count>(list, total)`
     pub(crate) fn fold(
         &self,
@@ -32,7 +70,6 @@ impl<
         ensures gives { Folds self.now name.now count.now list.now total.now asked.entry result body.old body.new }
         ensures scope { OnOk result (body.new.scope ≡ body.old.scope) }
     {
-        let alloc = self.checker.alloc();
         let f = self.checker.function(name)?;
         let bound = counted(count)?;
         if !is_list_bound(bound) {
@@ -43,11 +80,10 @@ impl<
         }
         let (item, start) = fold_shape(f, name)?;
         needs(same_type(&f.result, asked.expected), asked.rule, asked.span)?;
-        let kind = list_type(alloc, item, bound)?;
+        let items = self.list_of(list, item, bound, body)?;
+        let start = self.boxed(total, start, body)?;
         let name = name.text.clone()?;
         let count = count.text.clone()?;
-        let items = self.boxed(list, &kind, body)?;
-        let start = self.boxed(total, start, body)?;
         Ok(TypedForm::Fold(name, count, items, start))
     }
 
@@ -66,16 +102,14 @@ impl<
         ensures gives { FoldsAll self.now name.now count.now array.now total.now asked.entry result body.old body.new }
         ensures scope { OnOk result (body.new.scope ≡ body.old.scope) }
     {
-        let alloc = self.checker.alloc();
         let f = self.checker.function(name)?;
         let length = counted(count)?;
         let (item, start) = fold_shape(f, name)?;
         needs(same_type(&f.result, asked.expected), asked.rule, asked.span)?;
-        let kind = array_type(alloc, item, length)?;
+        let items = self.array_of(array, item, length, body)?;
+        let start = self.boxed(total, start, body)?;
         let name = name.text.clone()?;
         let count = count.text.clone()?;
-        let items = self.boxed(array, &kind, body)?;
-        let start = self.boxed(total, start, body)?;
         Ok(TypedForm::ArrayFold(name, count, items, start))
     }
 
@@ -96,9 +130,9 @@ impl<
         let f = self.checker.function(name)?;
         let (start, given) = while_shape(f, name)?;
         needs(same_type(&f.result, asked.expected), asked.rule, asked.span)?;
-        let name = name.text.clone()?;
         let start = self.boxed(total, start, body)?;
         let given = self.boxed(context, given, body)?;
+        let name = name.text.clone()?;
         Ok(TypedForm::ForWhile(name, start, given))
     }
 }

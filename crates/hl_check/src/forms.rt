@@ -2,11 +2,11 @@
 
 ghost use Rattle.std.specs.Prelude.{◌≡◌, OnOk};
 ghost use Rattle.simplicityhl.specs.Kinds.{IsSound};
-ghost use Rattle.hl_scope.specs.Checks.{ChecksAt};
-ghost use Rattle.hl_check.specs.Forms.{array_form, assert_form, dbg_form, into_form, is_none_form, left_form, list_form, right_form, some_form, tuple_form, unwrap_form, unwrap_left_form, unwrap_right_form};
+ghost use Rattle.hl_scope.specs.Checks.{ChecksAt, ChecksExpr};
+ghost use Rattle.hl_check.specs.Forms.{array_form, assert_form, dbg_form, expr_in, into_form, is_none_form, left_form, list_form, right_form, some_form, tuple_form, unwrap_form, unwrap_left_form, unwrap_right_form};
 ghost use Rattle.hl_check.specs.Nests.{Nests};
 
-use crate::inner::Inner;
+use crate::checking::Checking;
 use hl_data::{TypedExpr, TypedForm};
 use hl_scope::{
     Asked, Body, CheckRefusal, Checker, array_parts, either_sides, either_type, is_bool, is_unit,
@@ -14,10 +14,11 @@ use hl_scope::{
 };
 use hl_syntax::{Expr, HlType, Rule, TypeText};
 use hl_types::same_form;
+use lists::Boxed;
 
 impl<
     F: Fn(&Checker<'_>, u16, &Expr, &HlType, Rule, &mut Body) -> Result<TypedExpr, CheckRefusal>,
-> Inner<'_, F> {
+> Checking<'_, F> {
     /// A tuple.
     pub(crate) fn tuple(
         &self,
@@ -106,6 +107,40 @@ impl<
         Ok(TypedForm::Dbg(found))
     }
 
+    /// A part that is an option of an item, in a box.
+    fn option_part(
+        &self,
+        e: &Expr,
+        item: &HlType,
+        body: &mut Body,
+    ) -> Result<Boxed<TypedExpr>, CheckRefusal>
+        requires nests { Nests self.now.depth (F.pre self.now.expr) (F.post self.now.expr) }
+        requires sound { IsSound item.now }
+        ensures gives { ChecksExpr (expr_in self.now e.now) (HlType.Option item.now) Rule.K6 result body.old body.new }
+        ensures scope { OnOk result (body.new.scope ≡ body.old.scope) }
+    {
+        let kind = option_type(self.checker.alloc(), item)?;
+        self.boxed(e, &kind, body)
+    }
+
+    /// A part that is an either of a left and a right, in a box.
+    fn either_part(
+        &self,
+        e: &Expr,
+        left: &HlType,
+        right: &HlType,
+        body: &mut Body,
+    ) -> Result<Boxed<TypedExpr>, CheckRefusal>
+        requires nests { Nests self.now.depth (F.pre self.now.expr) (F.post self.now.expr) }
+        requires left { IsSound left.now }
+        requires right { IsSound right.now }
+        ensures gives { ChecksExpr (expr_in self.now e.now) (HlType.Either left.now right.now) Rule.K6 result body.old body.new }
+        ensures scope { OnOk result (body.new.scope ≡ body.old.scope) }
+    {
+        let kind = either_type(self.checker.alloc(), left, right)?;
+        self.boxed(e, &kind, body)
+    }
+
     /// `unwrap(e)`
     pub(crate) fn unwrap(
         &self,
@@ -118,8 +153,7 @@ impl<
         ensures gives { ChecksAt (unwrap_form self.now e.now) asked.entry result body.old body.new }
         ensures scope { OnOk result (body.new.scope ≡ body.old.scope) }
     {
-        let kind = option_type(self.checker.alloc(), asked.expected)?;
-        let found = self.boxed(e, &kind, body)?;
+        let found = self.option_part(e, asked.expected, body)?;
         Ok(TypedForm::Unwrap(found))
     }
 
@@ -137,8 +171,7 @@ impl<
         ensures scope { OnOk result (body.new.scope ≡ body.old.scope) }
     {
         let other = self.checker.written(text)?;
-        let kind = either_type(self.checker.alloc(), asked.expected, &other)?;
-        let found = self.boxed(e, &kind, body)?;
+        let found = self.either_part(e, asked.expected, &other, body)?;
         Ok(TypedForm::UnwrapLeft(other, found))
     }
 
@@ -156,8 +189,7 @@ impl<
         ensures scope { OnOk result (body.new.scope ≡ body.old.scope) }
     {
         let other = self.checker.written(text)?;
-        let kind = either_type(self.checker.alloc(), &other, asked.expected)?;
-        let found = self.boxed(e, &kind, body)?;
+        let found = self.either_part(e, &other, asked.expected, body)?;
         Ok(TypedForm::UnwrapRight(other, found))
     }
 
@@ -176,8 +208,7 @@ impl<
     {
         let item = self.checker.written(text)?;
         needs(is_bool(asked.expected), asked.rule, asked.span)?;
-        let kind = option_type(self.checker.alloc(), &item)?;
-        let found = self.boxed(e, &kind, body)?;
+        let found = self.option_part(e, &item, body)?;
         Ok(TypedForm::IsNone(item, found))
     }
 

@@ -4,10 +4,10 @@
 
 mod block;
 mod calls;
+mod checking;
 mod expr;
 mod folds;
 mod forms;
-mod inner;
 mod literal;
 mod program;
 

@@ -1,23 +1,27 @@
 //! Programs.
 
-ghost use Rattle.std.specs.Prelude.{◌≡◌, [], IfOk};
+ghost use Rattle.std.specs.Prelude.{◌≡◌, IfOk};
 ghost use Rattle.hl_rules.specs.Breaks.{Breaks};
 ghost use Rattle.hl_meaning.specs.Entries.{AreValued};
-ghost use Rattle.hl_rules.specs.Programs.{checked, item_walk, items_walk};
+ghost use Rattle.hl_rules.specs.Programs.{checked};
+ghost use Rattle.simplicityhl.specs.Kinds.{IsSound};
+ghost use Rattle.hl_typed.specs.Typed.{IsEdition};
 ghost use Rattle.hl_scope.specs.Contexts.{IsSoundFunction};
 ghost use Rattle.hl_scope.specs.Checks.{Checks, ChecksAs};
 ghost use Rattle.hl_check.specs.Tells.{TellsBroken};
-ghost use Rattle.hl_check.specs.Knowns.{IsSoundKnown, alias_known, and_function, function_after, known_of, nothing_known, walked_of};
+ghost use Rattle.hl_check.specs.Knowns.{IsSoundKnown, alias_known, and_function, body_after, function_after, item_after, items_of, known_of, walked_of};
 
 use crate::expr::{MOST_DEPTH, expr};
-use hl_data::{Entries, Functions, TypedFunction};
-use hl_scope::{Body, CheckRefusal, Checker, Scope, declare_alias, has_function, head, needs};
+use hl_data::{Entries, Functions, TypedExpr, TypedFunction};
+use hl_scope::{
+    Body, CheckRefusal, Checker, Scope, declare_alias, has_function, head, listed, needs,
+};
 use hl_syntax::{
-    Aliases, Expr, Item, Mark, Param, Program, Rule, Span, TypeText, TypedName, Wanted,
+    Aliases, Expr, HlType, Item, Mark, Param, Program, Rule, Span, TypeText, TypedName, Wanted,
 };
 use hl_typed::TypedProgram;
 use hl_types::copy_type;
-use lists::Text;
+use lists::{Boxed, Text};
 use std::alloc::{AllocError, Global};
 
 /// The aliases and the functions up to a place of the text, and the witnesses that were met.
@@ -28,43 +32,69 @@ struct Walked {
     met: Wanted,
 }
 
-/// A function's head, and then its body at the result's type, where the parameters are in scope;
-/// and the witnesses that were met up to its end.
-fn function(
+/// What a program is checked with: the entries for its parameters, and the edition of the language,
+/// 1 or 2.
+#[derive(Clone, Copy)]
+struct Setting<'a> {
     alloc: Global,
+    entries: &'a Entries,
+    edition: u8,
+}
+
+/// The body of a function at the result's type, in a box, where the parameters are in scope; and
+/// the witnesses that were met up to its end.
+fn body_of(
+    setting: Setting<'_>,
     known: &Walked,
-    entries: &Entries,
+    name: &Mark,
+    params: &Wanted,
+    kind: &HlType,
+    e: &Expr,
+) -> Result<(Boxed<TypedExpr>, Wanted), CheckRefusal>
+    requires known { IsSoundKnown (known_of known.now) }
+    requires kind { IsSound kind.now }
+    ensures { Checks (body_after setting.entry known.now name.now params.now kind.now e.now) result }
+{
+    let mut scope = Scope::new(setting.alloc);
+    scope.bind(copy_names(setting.alloc, params.as_slice())?)?;
+    let met = copy_names(setting.alloc, known.met.as_slice())?;
+    let mut body = Body { scope, met };
+    let checker = Checker::new(
+        setting.alloc,
+        &known.aliases,
+        &known.functions,
+        setting.entries,
+        setting.edition,
+        name.text.as_str(),
+    );
+    let found = expr(&checker, MOST_DEPTH, e, kind, Rule::K6, &mut body)?;
+    Ok((Boxed::new(setting.alloc, found)?, body.met))
+}
+
+/// A function's head, and then its body; and the witnesses that were met up to its end.
+fn function(
+    setting: Setting<'_>,
+    known: &Walked,
     name: &Mark,
     parts: &[Param],
     text: &Option<TypeText>,
     e: &Expr,
 ) -> Result<(TypedFunction, Wanted), CheckRefusal>
     requires { IsSoundKnown (known_of known.now) }
-    ensures gives { Checks (function_after entries.now known.now name.now parts.now text.now e.now) result }
+    ensures gives { Checks (function_after setting.entry known.now name.now parts.now text.now e.now) result }
     ensures sound { IfOk result (λ found. IsSoundFunction found.0) }
 {
     let functions = known.functions.as_slice();
-    let (params, kind) = head(alloc, &known.aliases, functions, name, parts, text)?;
-    let mut scope = Scope::new(alloc);
-    scope.bind(copy_names(alloc, params.as_slice())?)?;
-    let met = copy_names(alloc, known.met.as_slice())?;
-    let mut body = Body { scope, met };
-    let checker = Checker::new(
-        alloc,
-        &known.aliases,
-        &known.functions,
-        entries,
-        name.text.as_str(),
-    );
-    let found = expr(&checker, MOST_DEPTH, e, &kind, Rule::K6, &mut body)?;
+    let (params, kind) = head(setting.alloc, &known.aliases, functions, name, parts, text)?;
+    let (found, met) = body_of(setting, known, name, &params, &kind, e)?;
     let copied = copy_text(&name.text)?;
     let f = TypedFunction {
         name: copied,
         params,
         result: kind,
-        body: found,
+        body: found.into_inner(),
     };
-    Ok((f, body.met))
+    Ok((f, met))
 }
 
 /// A copy of a name.
@@ -129,14 +159,9 @@ fn with_function(known: Walked, f: TypedFunction, met: Wanted) -> Result<Walked,
 }
 
 /// What is known after one more item.
-fn item(
-    alloc: Global,
-    known: Walked,
-    entries: &Entries,
-    item: &Item,
-) -> Result<Walked, CheckRefusal>
+fn item(setting: Setting<'_>, known: Walked, item: &Item) -> Result<Walked, CheckRefusal>
     requires { IsSoundKnown (known_of known) }
-    ensures gives { ChecksAs walked_of (item_walk entries.now (known_of known) item.now known.met) result }
+    ensures gives { ChecksAs walked_of (item_after setting.entry known item.now) result }
     ensures sound { IfOk result (λ next. IsSoundKnown (known_of next)) }
 {
     match item {
@@ -144,7 +169,7 @@ fn item(
             name,
             kind,
             span: _,
-        } => alias(alloc, known, name, kind),
+        } => alias(setting.alloc, known, name, kind),
         Item::Function {
             name,
             params,
@@ -152,7 +177,7 @@ fn item(
             body,
             span: _,
         } => {
-            let (f, met) = function(alloc, &known, entries, name, params.as_slice(), kind, body)?;
+            let (f, met) = function(setting, &known, name, params.as_slice(), kind, body)?;
             Ok(with_function(known, f, met)?)
         }
     }
@@ -160,22 +185,22 @@ fn item(
 
 /// The items, one after the other.
 #[tactic(auto, using(crate::proofs::Items::item_next, crate::proofs::Items::no_item, crate::proofs::Items::nothing_sound))]
-fn items(alloc: Global, program: &[Item], entries: &Entries) -> Result<Walked, CheckRefusal>
-    ensures { ChecksAs walked_of (items_walk entries.now nothing_known program.now []) result }
+fn items(setting: Setting<'_>, program: &[Item]) -> Result<Walked, CheckRefusal>
+    ensures { ChecksAs walked_of (items_of setting.entry program.now) result }
 {
     let mut known = Walked {
-        aliases: Aliases::new(alloc),
-        functions: Functions::new(alloc),
-        met: Wanted::new(alloc),
+        aliases: Aliases::new(setting.alloc),
+        functions: Functions::new(setting.alloc),
+        met: Wanted::new(setting.alloc),
     };
     'items: for one in program {
-        known = item(alloc, known, entries, one)?;
+        known = item(setting, known, one)?;
     }
     Ok(known)
 }
 
-/// Walks a program, of which the function `asked` is asked for. `params` are the entries for its
-/// parameters, `edition` is 1, and `end` is the length of its text.
+/// Walks a program of an edition of the language, 1 or 2, of which the function `asked` is asked
+/// for. `params` are the entries for its parameters, and `end` is the length of its text in bytes.
 ///
 /// # Errors
 ///
@@ -189,13 +214,17 @@ pub fn check(
     edition: u8,
     end: u64,
 ) -> Result<TypedProgram, CheckRefusal>
-    requires edition { edition ≡ 1 }
+    requires edition { IsEdition edition }
     requires entries { AreValued params.now }
-    ensures answers { Checks (checked program.now asked.now params.now end) result }
-    ensures broken { TellsBroken (Breaks program.now asked.now params.now end) result }
+    ensures answers { Checks (checked program.now asked.now params.now edition end) result }
+    ensures broken { TellsBroken (Breaks program.now asked.now params.now edition end) result }
 {
-    let _ = edition;
-    let known = items(alloc, program.as_slice(), params)?;
+    let setting = Setting {
+        alloc,
+        entries: params,
+        edition,
+    };
+    let known = items(setting, program.as_slice())?;
     let span = Span { start: end, end };
     needs(
         has_function(known.functions.as_slice(), asked),
@@ -207,5 +236,6 @@ pub fn check(
         functions,
         met,
     } = known;
-    Ok(TypedProgram::new(functions, met))
+    let witnesses = listed(alloc, edition, met)?;
+    Ok(TypedProgram::new(functions, witnesses, edition))
 }

@@ -1,4 +1,5 @@
 pub mod Finds
+pub mod FirstPlaces
 pub mod Outer
 pub mod Params
 pub mod Parts

@@ -1,6 +1,6 @@
 -- What the checker knows at a function's body.
 use Rattle.std.specs.Prelude.{◌≡◌, ℕ, Bool, List, ◌++◌, length, IsTrue, map, refl}
-use Rattle.std.specs.Coded.{Coded, code_by, coded×, coded_list, coded_bool}
+use Rattle.std.specs.Coded.{Coded, code_by, coded×, coded_list, coded_bool, coded_ℕ}
 use Rattle.std.specs.List.{All}
 use Rattle.hl_syntax.specs.contracts.kinds.TypedName as names
 use Rattle.hl_data.specs.contracts.typed.TypedFunction as typed
@@ -45,9 +45,10 @@ IsSoundSide sides.Nothing = Unit {0}
 IsSoundSide sides.True = Unit {0}
 IsSoundSide sides.False = Unit {0}
 
--- what is known at the body of a function of a name
-abbrev pub context_of : List TypedName → List TypedFunction → List Entry → List ℕ → Context
-context_of aliases functions entries name = record { aliases = aliases; functions = functions; entries = entries; in_main = is_main name }
+-- what is known at the body of a function of a name, in a program of an edition
+abbrev pub context_of : List TypedName → List TypedFunction → List Entry → ℕ → List ℕ → Context
+context_of aliases functions entries edition name =
+    record { aliases = aliases; functions = functions; entries = entries; in_main = is_main name; edition = edition }
 
 -- the function before and the entry of a name, or the rule that is broken without it
 abbrev pub function_for : Context → Mark → Step TypedFunction
@@ -70,7 +71,7 @@ OutermostLeft old outer new = (inner outermost : List TypedName) → old ≡ inn
 -- a context is told from others by its parts
 abbrev pub coded_context : Coded Context
 coded_context =
-    code_by ((List TypedName × List TypedFunction) × (List Entry × Bool))
-    (coded× (coded× (coded_list names.the_row.coded) (coded_list typed.the_row.coded)) (coded× (coded_list entry.the_row.coded) coded_bool))
-    (λ c. ((c.aliases, c.functions), (c.entries, c.in_main)))
-    (λ p. record { aliases = p.0.0; functions = p.0.1; entries = p.1.0; in_main = p.1.1 }) (λ _. refl)
+    code_by ((List TypedName × List TypedFunction) × (List Entry × (Bool × ℕ)))
+    (coded× (coded× (coded_list names.the_row.coded) (coded_list typed.the_row.coded)) (coded× (coded_list entry.the_row.coded) (coded× coded_bool coded_ℕ)))
+    (λ c. ((c.aliases, c.functions), (c.entries, (c.in_main, c.edition))))
+    (λ p. record { aliases = p.0.0; functions = p.0.1; entries = p.1.0; in_main = p.1.1.0; edition = p.1.1.1 }) (λ _. refl)

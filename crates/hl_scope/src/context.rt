@@ -18,7 +18,8 @@ use std::alloc::Global;
 use std::marker::Model;
 
 /// The aliases and the functions before a function's body, the entries for the parameters of the
-/// program, and whether the function is `main`. The types of aliases and functions are sound.
+/// program, whether the function is `main`, and the edition of the language, 1 or 2. The types of
+/// aliases and functions are sound.
 #[derive(Drop)]
 pub struct Checker<'a> {
     alloc: Global,
@@ -26,6 +27,7 @@ pub struct Checker<'a> {
     functions: &'a Functions,
     entries: &'a Entries,
     in_main: bool,
+    edition: u8,
 }
 
 impl<'a> Model for Checker<'a> {
@@ -39,7 +41,8 @@ impl<'a> Model for Checker<'a> {
 
     ghost coded = { coded_context };
 
-    ghost view = { λ k. record { aliases = k.aliases.now; functions = k.functions.now; entries = k.entries.now; in_main = k.in_main } };
+    ghost view =
+        { λ k. record { aliases = k.aliases.now; functions = k.functions.now; entries = k.entries.now; in_main = k.in_main; edition = k.edition } };
 
     ghost invariant = { λ k. AreSound k.aliases.now × All IsSoundFunction k.functions.now };
 }
@@ -82,17 +85,18 @@ fn first_entry<'a>(entries: &'a [Entry], name: &str) -> Option<&'a Entry>
 }
 
 impl<'a> Checker<'a> {
-    /// What is known at the body of a function of a name.
+    /// What is known at the body of a function of a name, in a program of an edition.
     pub fn new(
         alloc: Global,
         aliases: &'a Aliases,
         functions: &'a Functions,
         entries: &'a Entries,
+        edition: u8,
         name: &str,
     ) -> Checker<'a>
         requires aliases { AreSound aliases.now }
         requires functions { All IsSoundFunction functions.now }
-        ensures { result ≡ context_of aliases.now functions.now entries.now name.now }
+        ensures { result ≡ context_of aliases.now functions.now entries.now edition name.now }
     {
         Checker {
             alloc,
@@ -100,6 +104,7 @@ impl<'a> Checker<'a> {
             functions,
             entries,
             in_main: is_main(name),
+            edition,
         }
     }
 
@@ -143,6 +148,13 @@ impl<'a> Checker<'a> {
         ensures { result ≡ self.now.in_main }
     {
         self.in_main
+    }
+
+    /// The edition of the language, 1 or 2.
+    pub(crate) fn edition(&self) -> u8
+        ensures { result ≡ self.now.edition }
+    {
+        self.edition
     }
 
     /// Where memory is taken from.

@@ -1,6 +1,7 @@
 //! Names: variables, witnesses and parameters of the program.
 
 ghost use Rattle.std.specs.Prelude.{◌≡◌, OnOk};
+ghost use Rattle.hl_rules.specs.Exprs.{may_stand};
 ghost use Rattle.hl_rules.specs.Places.{variable_type};
 ghost use Rattle.hl_rules.specs.Steps.{wants};
 ghost use Rattle.hl_scope.specs.Checks.{ChecksAs, ChecksAt};
@@ -11,7 +12,7 @@ use crate::body::Body;
 use crate::context::Checker;
 use crate::copies::copy_value;
 use crate::refusal::{CheckRefusal, needs};
-use crate::scope::{Scope, has_name};
+use crate::scope::{Scope, first_named};
 use hl_data::TypedForm;
 use hl_syntax::{HlType, Mark, Rule, Span, TypedName};
 use hl_types::{copy_type, same_type};
@@ -27,6 +28,17 @@ fn variable<'a>(scope: &'a Scope, name: &Text, span: Span) -> Result<&'a HlType,
             rule: Rule::K4,
             span,
         }),
+    }
+}
+
+/// Whether a witness may stand at a type, after those that were met: a name that was met stands
+/// again in edition 2 alone, where that type was expected at its first place too.
+fn may_stand(edition: u8, met: &[TypedName], name: &str, expected: &HlType) -> bool
+    ensures { result ≡ may_stand edition met.now name.now expected.now }
+{
+    match first_named(met, name) {
+        Some(first) => edition == 2 && same_type(&first.kind, expected),
+        None => true,
     }
 }
 
@@ -57,8 +69,13 @@ impl Checker<'_> {
         ensures scope { OnOk result (body.new.scope ≡ body.old.scope) }
     {
         needs(self.is_main(), Rule::K16, name.span)?;
-        let is_new = !has_name(body.met.as_slice(), name.text.as_str());
-        needs(is_new, Rule::K17, name.span)?;
+        let may = may_stand(
+            self.edition(),
+            body.met.as_slice(),
+            name.text.as_str(),
+            asked.expected,
+        );
+        needs(may, Rule::K17, name.span)?;
         let kind = copy_type(self.alloc(), asked.expected)?;
         let met = TypedName {
             name: name.text.clone()?,

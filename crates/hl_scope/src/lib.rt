@@ -17,6 +17,7 @@ mod scope;
 mod shapes;
 mod sides;
 mod signature;
+mod witnesses;
 
 pub use asked::Asked;
 pub use body::Body;
@@ -35,3 +36,4 @@ pub use sides::{
     are_sides, array_type, either_type, list_type, matched_type, option_type, side_at,
 };
 pub use signature::{argument_types, jet_row, result_type};
+pub use witnesses::listed;

@@ -36,6 +36,13 @@ pub(crate) fn has_name(names: &[TypedName], name: &str) -> bool
     names.iter().any(|known| name == known.name.as_str())
 }
 
+/// The first of a name.
+pub(crate) fn first_named<'a>(names: &'a [TypedName], name: &str) -> Option<&'a TypedName>
+    ensures { option_copied result ≡ find (λ known. bytes_eq name.now known.name) names.now }
+{
+    names.iter().find(|known| name == known.name.as_str())
+}
+
 /// The last of a name.
 fn innermost<'a>(names: &'a [TypedName], name: &str) -> Option<&'a TypedName>
     ensures { option_copied result ≡ find (λ known. bytes_eq name.now known.name) (reverse names.now) }

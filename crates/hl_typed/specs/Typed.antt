@@ -1,5 +1,5 @@
 -- Typed programs, which break no rule and no limit.
-use Rattle.std.specs.Prelude.{◌≡◌, ℕ, List, Ok, refl}
+use Rattle.std.specs.Prelude.{◌≡◌, ℕ, ◌||◌, nat_eq, IsTrue, List, Ok, refl}
 use Rattle.std.specs.Coded.{Coded, code_by, coded×, coded_list, coded_ℕ}
 use Rattle.hl_syntax.specs.contracts.kinds.TypedName as names
 use Rattle.hl_data.specs.contracts.typed.TypedFunction as typed
@@ -9,6 +9,10 @@ use Rattle.hl_data.specs.declared.typed.TypedFunction.{TypedFunction}
 use Rattle.hl_data.specs.declared.value.Entry.{Entry}
 use Rattle.hl_meaning.specs.Entries.{AreValued}
 use Rattle.hl_rules.specs.Programs.{Checked, checked}
+
+-- the editions of the language are 1 and 2
+abbrev pub IsEdition : ℕ → Type 0
+IsEdition edition = IsTrue (nat_eq edition 1 || nat_eq edition 2)
 
 -- it is what some source text of its edition is, of which some function is asked for, with some entries whose values are of their
 -- types: no rule and no limit is broken there

@@ -9,10 +9,10 @@ returns-in-Alias-clause-gives c = rw c.in-Alias.is c.alias.ensures.gives
 
 pub returns-in_err-f-in-Function-clause-gives : goal.returns-in_err-f-in-Function-clause-gives
 returns-in_err-f-in-Function-clause-gives c =
-    item_refused c.args.entries.now (known_of c.args.known) c.args.known.met c.args.item.now c.in-Function.name c.as_slice.result.now c.in-Function.kind c.in-Function.body c.in-Function.span (λ (next : Walked). (known_of next, next.met)) c.in_err-f-in-Function.field-0.0 c.from_residual.result
+    item_refused c.args.setting.entries.now c.args.setting.edition (known_of c.args.known) c.args.known.met c.args.item.now c.in-Function.name c.as_slice.result.now c.in-Function.kind c.in-Function.body c.in-Function.span (λ (next : Walked). (known_of next, next.met)) c.in_err-f-in-Function.field-0.0 c.from_residual.result
     (c.in-Function.is ∙ rw c.as_slice.ensures refl) c.in_err-f-in-Function.ensures.gives c.from_residual.ensures.1
 
 pub returns-in_ok-with_function-in-Function-clause-gives : goal.returns-in_ok-with_function-in-Function-clause-gives
 returns-in_ok-with_function-in-Function-clause-gives c =
     rw (c.in_ok-with_function-in-Function.ensures.known, c.in_ok-with_function-in-Function.ensures.met)
-    (item_found c.args.entries.now (known_of c.args.known) c.args.known.met c.args.item.now c.in-Function.name c.as_slice.result.now c.in-Function.kind c.in-Function.body c.in-Function.span c.in_ok-f-in-Function.f c.in_ok-f-in-Function.met (c.in-Function.is ∙ rw c.as_slice.ensures refl) c.in_ok-f-in-Function.ensures.gives)
+    (item_found c.args.setting.entries.now c.args.setting.edition (known_of c.args.known) c.args.known.met c.args.item.now c.in-Function.name c.as_slice.result.now c.in-Function.kind c.in-Function.body c.in-Function.span c.in_ok-f-in-Function.f c.in_ok-f-in-Function.met (c.in-Function.is ∙ rw c.as_slice.ensures refl) c.in_ok-f-in-Function.ensures.gives)

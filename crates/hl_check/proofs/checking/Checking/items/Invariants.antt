@@ -1,7 +1,7 @@
 use Rattle.std.proofs.Common.{◌≡◌, map}
 use Rattle.hl_rules.specs.Exprs.{expr_walk, items_walk}
 use Rattle.hl_check.proofs.Exprs.{items_from}
-use Rattle.hl_check.proofs.inner.Inner.items.Given as goal
+use Rattle.hl_check.proofs.checking.Checking.items.Given as goal
 
 abbrev pub invariant-items : goal.invariant-items
 invariant-items g l =

@@ -1,7 +1,7 @@
 use Rattle.std.proofs.Common.{◌≡◌, map}
 use Rattle.hl_rules.specs.Exprs.{expr_walk, parts_walk}
 use Rattle.hl_check.proofs.Exprs.{arguments_from}
-use Rattle.hl_check.proofs.inner.Inner.arguments.Given as goal
+use Rattle.hl_check.proofs.checking.Checking.arguments.Given as goal
 
 abbrev pub invariant-parts : goal.invariant-parts
 invariant-parts g l =

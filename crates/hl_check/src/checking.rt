@@ -15,7 +15,7 @@ use lists::Boxed;
 
 /// How the expressions in an expression are checked.
 #[derive(Clone, Copy)]
-pub(crate) struct Inner<'a, F> {
+pub(crate) struct Checking<'a, F> {
     pub(crate) checker: &'a Checker<'a>,
     pub(crate) depth: u16,
     pub(crate) expr: F,
@@ -23,7 +23,7 @@ pub(crate) struct Inner<'a, F> {
 
 impl<
     F: Fn(&Checker<'_>, u16, &Expr, &HlType, Rule, &mut Body) -> Result<TypedExpr, CheckRefusal>,
-> Inner<'_, F> {
+> Checking<'_, F> {
     /// A part at a type.
     pub(crate) fn part(
         &self,

@@ -3,7 +3,7 @@ use Rattle.hl_syntax.specs.declared.tree.ExprForm.TheOpen.{ExprForm-F}
 use Rattle.hl_rules.specs.Exprs.{expr_walk, statement_walk, form_step}
 use Rattle.hl_check.specs.Arms.{arm_walk}
 use Rattle.hl_check.proofs.Rolled.{walked, walk-Block, walk-Match, walk-Tuple, walk-Array, walk-List, walk-Jet, walk-Call, walk-Fold, walk-ArrayFold, walk-ForWhile}
-use Rattle.hl_check.proofs.inner.Inner.form.Goals as goal
+use Rattle.hl_check.proofs.checking.Checking.form.Goals as goal
 
 pub returns-in-Block-clause-gives : goal.returns-in-Block-clause-gives
 returns-in-Block-clause-gives g c =

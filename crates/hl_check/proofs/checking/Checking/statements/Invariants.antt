@@ -1,8 +1,8 @@
 use Rattle.std.proofs.Common.{◌≡◌, map}
 use Rattle.hl_rules.specs.Exprs.{statement_walk, statements_walk}
-use Rattle.hl_check.specs.Inner.{IsInner}
+use Rattle.hl_check.specs.Scopes.{IsInner}
 use Rattle.hl_check.proofs.Exprs.{statements_from}
-use Rattle.hl_check.proofs.inner.Inner.statements.Given as goal
+use Rattle.hl_check.proofs.checking.Checking.statements.Given as goal
 
 abbrev pub invariant-statements : goal.invariant-statements
 invariant-statements g l =

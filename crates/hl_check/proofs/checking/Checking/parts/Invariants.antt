@@ -1,7 +1,7 @@
 use Rattle.std.proofs.Common.{◌≡◌, map}
 use Rattle.hl_rules.specs.Exprs.{expr_walk, parts_walk}
 use Rattle.hl_check.proofs.Exprs.{parts_from}
-use Rattle.hl_check.proofs.inner.Inner.parts.Given as goal
+use Rattle.hl_check.proofs.checking.Checking.parts.Given as goal
 
 abbrev pub invariant-parts : goal.invariant-parts
 invariant-parts g l =

@@ -6,7 +6,7 @@ use Rattle.hl_rules.specs.Exprs.{expr_walk}
 use Rattle.hl_scope.specs.Checks.{ChecksMet}
 use Rattle.hl_check.proofs.Pairs.{two_of}
 use Rattle.hl_check.proofs.Rolled.{match_two}
-use Rattle.hl_check.proofs.inner.Inner.matching.Goals as goal
+use Rattle.hl_check.proofs.checking.Checking.matching.Goals as goal
 
 pub returns-in-len2-clause-gives : goal.returns-in-len2-clause-gives
 returns-in-len2-clause-gives g c =
