@@ -115,8 +115,8 @@ typed_answers program typed name argument witness call =
     (shaped_then (λ v. IsValueOf v call.function.result) (parts_of r.run.params argument) parts.0 r.run.run same (r.fits.runs given parts.0 parts.2))
 
 pub checked_answers : CheckedAnswers
-checked_answers source asked entries end program h valued = typed_answers program (answered_typed source asked entries end program valued h)
+checked_answers source asked entries edition end program h valued = typed_answers program (answered_typed source asked entries edition end program valued h)
 
 -- no witness of a program stands twice
-pub witnesses_once : (source : List Item) (asked : List ℕ) (entries : List Entry) (end : ℕ) (program : Checked) → checked source asked entries end ≡ Ok program → AreValued entries → Once program.witnesses
-witnesses_once source asked entries end program h valued = (answered_typed source asked entries end program valued h).once
+pub witnesses_once : (source : List Item) (asked : List ℕ) (entries : List Entry) (edition end : ℕ) (program : Checked) → checked source asked entries edition end ≡ Ok program → AreValued entries → Once program.witnesses
+witnesses_once source asked entries edition end program h valued = (answered_typed source asked entries edition end program valued h).once
