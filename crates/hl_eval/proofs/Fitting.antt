@@ -15,7 +15,7 @@ use Rattle.hl_eval.specs.Evaluated.{IsResultOf}
 
 module _ (program : Checked) (functions : List TypedFunction) (name : List ℕ) (argument : HlValue) (witness : List Binding) (are : functions ≡ program.functions) (b : BreaksNothing program) (call : FitsCall program name argument witness) where
   has_answer : HasAnswer call.function.result (meaning functions name witness argument)
-  has_answer = subst (λ fs. HasAnswer call.function.result (meaning fs name witness argument)) (sym are) (checked_answers b.program b.asked b.entries b.end program b.is b.valued name argument witness call)
+  has_answer = subst (λ fs. HasAnswer call.function.result (meaning fs name witness argument)) (sym are) (checked_answers b.program b.asked b.entries program.edition b.end program b.is b.valued name argument witness call)
 
   pub never_stuck : meaning functions name witness argument ≡ stuck → ⊥
   never_stuck is = subst (HasAnswer call.function.result) is has_answer

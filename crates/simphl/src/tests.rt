@@ -165,7 +165,7 @@ static SOURCES: [(&str, &str, Status, &str); 26] = [
 ];
 
 /// Words that are refused, and the index at which they are.
-static WORDS: [(&[&str], &str); 22] = [
+static WORDS: [(&[&str], &str); 24] = [
     (&[], "words at 0\n"),
     (&["built", "a.hl", "fn=swap"], "words at 0\n"),
     (&["build"], "words at 1\n"),
@@ -183,7 +183,9 @@ static WORDS: [(&[&str], &str); 22] = [
     (&["eval", "a.hl", "fn"], "words at 2\n"),
     (&["eval", "a.hl", "fn=swap", "fn=swap"], "words at 3\n"),
     (&["eval", "a.hl", "edition=1", "edition=2"], "words at 3\n"),
-    (&["eval", "a.hl", "edition=2"], "words at 2\n"),
+    (&["eval", "a.hl", "edition=2", "edition=2"], "words at 3\n"),
+    (&["eval", "a.hl", "edition=3"], "words at 2\n"),
+    (&["eval", "a.hl", "edition="], "words at 2\n"),
     (&["eval", "a.hl", "wit=", "args="], "words at 2\n"),
     (&["eval", "a.hl", "input=1", "bad", "worse"], "words at 3\n"),
     (&["eval", "a.hl", "from=u8"], "words at 2\n"),
@@ -201,7 +203,7 @@ struct Evaluated {
 }
 
 /// The parameters' file is `p`, the witnesses' file `w`.
-static EVALUATED: [Evaluated; 49] = [
+static EVALUATED: [Evaluated; 53] = [
     Evaluated {
         source: "fn f(a: u8, b: u8) -> (bool, u8) { jet::add_8(a, b) }",
         args: "",
@@ -593,6 +595,39 @@ static EVALUATED: [Evaluated; 49] = [
         words: &["fn=f"],
         status: Status::Done,
         text: "value: 5\n",
+    },
+    // A witness that stands twice: in edition 2 as one value.
+    Evaluated {
+        source: "fn main() { assert!(jet::eq_8(witness::X, 7)); assert!(jet::eq_8(witness::X, 7)); }",
+        args: "",
+        witness: "{\"X\": {\"value\": \"7\", \"type\": \"u8\"}}",
+        words: &["wit=w"],
+        status: Status::SourceRefused,
+        text: "source K17 at 74..75\n",
+    },
+    Evaluated {
+        source: "fn main() { assert!(jet::eq_8(witness::X, 7)); assert!(jet::eq_8(witness::X, 7)); }",
+        args: "",
+        witness: "{\"X\": {\"value\": \"7\", \"type\": \"u8\"}}",
+        words: &["wit=w", "edition=2"],
+        status: Status::Done,
+        text: "value: ()\n",
+    },
+    Evaluated {
+        source: "fn main() { assert!(jet::eq_8(witness::X, 7)); assert!(jet::eq_8(witness::X, 7)); }",
+        args: "",
+        witness: "{\"X\": {\"value\": \"8\", \"type\": \"u8\"}}",
+        words: &["edition=2", "wit=w"],
+        status: Status::ProgramFailed,
+        text: "failed\n",
+    },
+    Evaluated {
+        source: "fn main() { let a: u8 = witness::X; let b: u16 = witness::X; }",
+        args: "",
+        witness: "",
+        words: &["edition=2"],
+        status: Status::SourceRefused,
+        text: "source K17 at 58..59\n",
     },
 ];
 
