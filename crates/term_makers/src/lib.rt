@@ -1,5 +1,5 @@
-//! Rows of a table of terms for each way to make a term from others: which row may be added, and that
-//! it means what is made. The functions below have no body, and their contracts are the laws.
+//! Terms made of terms in a table: a call for each way to make one, which adds its row. The two
+//! functions without a body are laws: which row may be added, and that it means what is made.
 #![tactic(auto)]
 
 ghost use Rattle.term_makers.specs.Made.{ArrowsAreTold, RowsAreMade};

@@ -238,8 +238,8 @@ fn tagged_type(
     types.product(either, rest)
 }
 
-/// One term or another, by the tag of the first part of a pair. The first goes on with a value of `left`,
-/// the second with one of `right`, each beside the rest of the pair.
+/// One term or another, by the tag of the first part of a pair. The first goes on with a value of
+/// `left`, the second with one of `right`, each beside the rest of the pair.
 pub fn add_by_tag(
     terms: &mut TermTable,
     types: &mut TypeTable,
@@ -255,8 +255,10 @@ pub fn add_by_tag(
     requires rest { rest < length types.old }
     requires first { first < length terms.old }
     requires second { second < length terms.old }
-    requires from_left { source (term_at types.old terms.old first) ≡ Product (kind_at types.old left) (kind_at types.old rest) }
-    requires from_right { source (term_at types.old terms.old second) ≡ Product (kind_at types.old right) (kind_at types.old rest) }
+    requires from_left { source (term_at types.old terms.old first)
+        ≡ Product (kind_at types.old left) (kind_at types.old rest) }
+    requires from_right { source (term_at types.old terms.old second)
+        ≡ Product (kind_at types.old right) (kind_at types.old rest) }
     requires meets { target (term_at types.old terms.old second) ≡ target (term_at types.old terms.old first) }
     ensures ok { IfOk result (λ id. MeansTerm types.new terms.new id
         (make.by_tag (kind_at types.old left) (kind_at types.old right) (kind_at types.old rest)
@@ -270,8 +272,8 @@ pub fn add_by_tag(
     terms.add(Node::Case(first, second), tagged, target, types)
 }
 
-/// A term on the left of a tagged pair alone; the other side is hidden, and fails. `hidden` is the root of
-/// failure.
+/// A term on the left of a tagged pair alone; the other side is hidden, and fails. `hidden` is the
+/// root of failure.
 pub fn add_only_left(
     terms: &mut TermTable,
     types: &mut TypeTable,
@@ -286,10 +288,12 @@ pub fn add_only_left(
     requires right { right < length types.old }
     requires rest { rest < length types.old }
     requires term { term < length terms.old }
-    requires from { source (term_at types.old terms.old term) ≡ Product (kind_at types.old left) (kind_at types.old rest) }
+    requires from { source (term_at types.old terms.old term)
+        ≡ Product (kind_at types.old left) (kind_at types.old rest) }
     requires hidden { hidden ≡ make.fail_root }
     ensures ok { IfOk result (λ id. MeansTerm types.new terms.new id
-        (make.only_left (kind_at types.old left) (kind_at types.old right) (kind_at types.old rest) (term_at types.old terms.old term))) }
+        (make.only_left (kind_at types.old left) (kind_at types.old right) (kind_at types.old rest)
+        (term_at types.old terms.old term))) }
     ensures grown { IsGrown types.old types.new }
     ensures kept { KeepsRows terms.old terms.new }
     ensures stands { StandsOver types.new terms.new }
@@ -299,8 +303,8 @@ pub fn add_only_left(
     terms.add(Node::AssertL(term, hidden), tagged, target, types)
 }
 
-/// A term on the right of a tagged pair alone; the other side is hidden, and fails. `hidden` is the root of
-/// failure.
+/// A term on the right of a tagged pair alone; the other side is hidden, and fails. `hidden` is the
+/// root of failure.
 pub fn add_only_right(
     terms: &mut TermTable,
     types: &mut TypeTable,
@@ -315,10 +319,12 @@ pub fn add_only_right(
     requires right { right < length types.old }
     requires rest { rest < length types.old }
     requires term { term < length terms.old }
-    requires from { source (term_at types.old terms.old term) ≡ Product (kind_at types.old right) (kind_at types.old rest) }
+    requires from { source (term_at types.old terms.old term)
+        ≡ Product (kind_at types.old right) (kind_at types.old rest) }
     requires hidden { hidden ≡ make.fail_root }
     ensures ok { IfOk result (λ id. MeansTerm types.new terms.new id
-        (make.only_right (kind_at types.old left) (kind_at types.old right) (kind_at types.old rest) (term_at types.old terms.old term))) }
+        (make.only_right (kind_at types.old left) (kind_at types.old right) (kind_at types.old rest)
+        (term_at types.old terms.old term))) }
     ensures grown { IsGrown types.old types.new }
     ensures kept { KeepsRows terms.old terms.new }
     ensures stands { StandsOver types.new terms.new }
