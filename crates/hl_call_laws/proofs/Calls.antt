@@ -38,10 +38,10 @@ calls_agree x edition program jets loops typed name argument given call core w e
     let r = found_rendered program.witnesses given w fs gs ts name f all call.there in
     let parts = arguments f.params argument core encodes in
     let means : meaning fs name given argument ≡ r.run.run parts.values =
-        ap (λ o. shaped o (λ g. shaped (parts_of g.params argument) g.run)) r.there ∙ ap (λ ps. shaped (parts_of ps argument) r.run.run) r.renders.meant_params ∙ ap (λ o. shaped o r.run.run) parts.parts in
+    ap (λ o. shaped o (λ g. shaped (parts_of g.params argument) g.run)) r.there ∙ ap (λ ps. shaped (parts_of ps argument) r.run.run) r.renders.meant_params ∙ ap (λ o. shaped o r.run.run) parts.parts in
     let given_here : AreGiven (programs.witnesses_of f.name program.witnesses) given w = subst (λ n. AreGiven (programs.witnesses_of n program.witnesses) given w) r.is told in
     let computes : Computes f.result (r.run.run parts.values) (bare.meaning (erased r.made.term) w core) =
-        subst (λ c. Computes f.result (r.run.run parts.values) (bare.meaning (erased r.made.term) w c)) parts.joined (r.renders.runs given_here parts.values parts.cores parts.encode) in
+    subst (λ c. Computes f.result (r.run.run parts.values) (bare.meaning (erased r.made.term) w c)) parts.joined (r.renders.runs given_here parts.values parts.cores parts.encode) in
     record {
       term = r.made;
       there = r.stands;

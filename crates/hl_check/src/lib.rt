@@ -11,7 +11,7 @@ mod forms;
 mod literal;
 mod program;
 
-pub use hl_scope::CheckRefusal;
 pub use hl_data::{Functions, TypedFunction};
+pub use hl_scope::CheckRefusal;
 pub use hl_typed::TypedProgram;
 pub use program::check;
