@@ -43,7 +43,8 @@ some_so ns (i ∷ is) (inl h) = ap (λ b. b || some_hidden ns is) (is_so (slice_
 some_so ns (i ∷ is) (inr h) = ap (λ b. is_hidden (slice_get ns i) || b) (some_so ns is h) ∙ or_any (is_hidden (slice_get ns i))
 
 -- of a node that is no case
-others : (ns : List Node) (n : Node) (at : ℕ) (bits : List Bool) → (IsCase n → ⊥) → in_place ns n at bits ≡ cond (some_hidden ns (children n)) (Refused (HiddenPlace (length ns))) (Got n at bits)
+others : (ns : List Node) (n : Node) (at : ℕ) (bits : List Bool) → (IsCase n → ⊥) →
+    in_place ns n at bits ≡ cond (some_hidden ns (children n)) (Refused (HiddenPlace (length ns))) (Got n at bits)
 others ns node.Iden at bits h = refl
 others ns node.UnitNode at bits h = refl
 others ns node.Witness at bits h = refl
@@ -58,7 +59,8 @@ others ns (node.Comp l r) at bits h = refl
 others ns (node.Pair l r) at bits h = refl
 others ns (node.Case l r) at bits h = elim (h tt) [ ]
 
-pub cond_refused : {A : Type 0} (t : Bool) (q r : Refusal) (a : A) (at : ℕ) (bits : List Bool) → cond t (Refused q) (Got a at bits) ≡ Refused r → (t ≡ true) × (r ≡ q)
+pub cond_refused : {A : Type 0} (t : Bool) (q r : Refusal) (a : A) (at : ℕ) (bits : List Bool) → cond t (Refused q) (Got a at bits) ≡ Refused r →
+    (t ≡ true) × (r ≡ q)
 cond_refused true q r a at bits e = (refl, cc)
 cond_refused false q r a at bits e = absurd (cc)
 
@@ -66,7 +68,8 @@ data PlaceStops (ns : List Node) (n : Node) (r : Refusal) : Type 0 where
   ForChild : (IsCase n → ⊥) → SomeHidden ns (children n) → r ≡ HiddenPlace (length ns) → PlaceStops ns n r
   ForSides : (i j : ℕ) → n ≡ node.Case i j → IsHidden (slice_get ns i) → IsHidden (slice_get ns j) → r ≡ BothHidden (length ns) → PlaceStops ns n r
 
-for_child : (ns : List Node) (n : Node) (at : ℕ) (bits : List Bool) (r : Refusal) → (IsCase n → ⊥) → in_place ns n at bits ≡ Refused r → PlaceStops ns n r
+for_child : (ns : List Node) (n : Node) (at : ℕ) (bits : List Bool) (r : Refusal) → (IsCase n → ⊥) → in_place ns n at bits ≡ Refused r →
+    PlaceStops ns n r
 for_child ns n at bits r not e =
     let test = cond_refused (some_hidden ns (children n)) (HiddenPlace (length ns)) r n at bits (sym (others ns n at bits not) ∙ e) in
     ForChild not (some_of ns (children n) test.0) test.1
@@ -101,20 +104,25 @@ next_only ns at bits r (inr h) =
     stopped ns h.0 at bits r (record { under = s.under; fits = s.fits; rest = h.2; stands = s.bits_are }) (place_refused ns h.0 h.1 h.2 r h.4)
 
 -- a node that was read is refused, whatever follows
-after_node : {A : Type 0} (ns : List Node) (n : Node) (at : ℕ) (bits : List Bool) (r : Refusal) (f : Node → Reading A) (s : StandsAfter ns n bits) → length ns < 2 ^ 32 →
-    ((end : ℕ) → in_place ns n end s.rest ≡ Refused r) → then (read_node (length ns) at bits) (λ m at' bits'. then (in_place ns m at' bits') f) ≡ Refused r
+after_node : {A : Type 0} (ns : List Node) (n : Node) (at : ℕ) (bits : List Bool) (r : Refusal) (f : Node →
+    Reading A) (s : StandsAfter ns n bits) → length ns < 2 ^ 32 →
+    ((end : ℕ) → in_place ns n end s.rest ≡ Refused r) → then (read_node (length ns) at bits) (λ m at' bits'. then
+    (in_place ns m at' bits') f) ≡ Refused r
 after_node ns n at bits r f s few place =
     let got = node_gets (length ns) n at s.rest s.under s.fits few in
     ap (λ b. then (read_node (length ns) at b) (λ m at' bits'. then (in_place ns m at' bits') f)) s.stands
     ∙ ap (λ x. then x (λ m at' bits'. then (in_place ns m at' bits') f)) got.1 ∙ ap (λ x. then x f) (place got.0)
 
-pub next_gets : {A : Type 0} (ns : List Node) (at : ℕ) (bits : List Bool) (r : Refusal) (f : Node → Reading A) → length ns < 2 ^ 32 → NextStops ns at bits r →
+pub next_gets : {A : Type 0} (ns : List Node) (at : ℕ) (bits : List Bool) (r : Refusal) (f : Node → Reading A) → length ns < 2 ^ 32 →
+    NextStops ns at bits r →
     then (read_node (length ns) at bits) (λ m at' bits'. then (in_place ns m at' bits') f) ≡ Refused r
-next_gets ns at bits _ f few (NodeRefused r h) = ap (λ x. then x (λ m at' bits'. then (in_place ns m at' bits') f)) (refusals_are_named.node_gets (length ns) at bits r h)
+next_gets ns at bits _ f few (NodeRefused r h) = ap (λ x. then x (λ m at' bits'. then (in_place ns m at' bits') f))
+    (refusals_are_named.node_gets (length ns) at bits r h)
 next_gets ns at bits _ f few (ChildHidden n s not some) =
     after_node ns n at bits (HiddenPlace (length ns)) f s few
     (λ end. others ns n end s.rest not ∙ ap (λ t. cond t (Refused (HiddenPlace (length ns))) (Got n end s.rest)) (some_so ns (children n) some))
 next_gets ns at bits _ f few (SidesHidden i j s one two) =
     after_node ns (node.Case i j) at bits (BothHidden (length ns)) f s few
-    (λ end. ap (λ t. cond (t && is_hidden (slice_get ns j)) (Refused (BothHidden (length ns))) (Got (node.Case i j) end s.rest)) (is_so (slice_get ns i) one)
+    (λ end. ap (λ t. cond (t && is_hidden (slice_get ns j)) (Refused (BothHidden (length ns))) (Got (node.Case i j) end s.rest)) (is_so
+    (slice_get ns i) one)
     ∙ ap (λ t. cond t (Refused (BothHidden (length ns))) (Got (node.Case i j) end s.rest)) (is_so (slice_get ns j) two))

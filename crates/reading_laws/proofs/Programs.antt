@@ -25,15 +25,18 @@ data PaddingStops (start seen at : ℕ) (bits : List Bool) (r : Refusal) : Type 
   One : (zeros : ℕ) (more : List Bool) → bits ≡ replicate zeros false ++ true ∷ more → r ≡ BadPadding (at + zeros) → PaddingStops start seen at bits r
   Long : (zeros : ℕ) → bits ≡ replicate zeros false → 8 ≤ seen + zeros → r ≡ BadPadding (8 * ((start + 7) / 8)) → PaddingStops start seen at bits r
 
-unless_less : {A : Type 0} (t : Bool) (q r : Refusal) (a : A) (at : ℕ) (bits : List Bool) → cond t (Got a at bits) (Refused q) ≡ Refused r → (t ≡ false) × (r ≡ q)
+unless_less : {A : Type 0} (t : Bool) (q r : Refusal) (a : A) (at : ℕ) (bits : List Bool) → cond t (Got a at bits) (Refused q) ≡ Refused r →
+    (t ≡ false) × (r ≡ q)
 unless_less true q r a at bits e = absurd (cc)
 unless_less false q r a at bits e = (refl, cc)
 
-one_more : (start seen at : ℕ) (bits : List Bool) (r : Refusal) → PaddingStops start (suc seen) (suc at) bits r → PaddingStops start seen at (false ∷ bits) r
+one_more : (start seen at : ℕ) (bits : List Bool) (r : Refusal) → PaddingStops start (suc seen) (suc at) bits r →
+    PaddingStops start seen at (false ∷ bits) r
 one_more start seen at bits r (One zeros more is e) = One (suc zeros) more (ap (λ l. false ∷ l) is) (e ∙ ap BadPadding (omega arith))
 one_more start seen at bits r (Long zeros is far e) = Long (suc zeros) (ap (λ l. false ∷ l) is) (omega (arith, far)) e
 
-padding_refused : {A : Type 0} (start seen at : ℕ) (a : A) (bits : List Bool) (r : Refusal) → padding_after start seen a at bits ≡ Refused r → PaddingStops start seen at bits r
+padding_refused : {A : Type 0} (start seen at : ℕ) (a : A) (bits : List Bool) (r : Refusal) → padding_after start seen a at bits ≡ Refused r →
+    PaddingStops start seen at bits r
 padding_refused start seen at a [] r e =
     let test = unless_less (nat_lt seen 8) (BadPadding (8 * ((start + 7) / 8))) r a at [] e in
     let far : 8 ≤ seen = ltb-false seen 8 test.0 in
@@ -43,21 +46,26 @@ padding_refused start seen at a (true ∷ bits) r e =
     One 0 bits refl (sym same ∙ ap BadPadding (omega arith))
 padding_refused start seen at a (false ∷ bits) r e = one_more start seen at bits r (padding_refused start (suc seen) (suc at) a bits r e)
 
-padding_one : {A : Type 0} (start seen at zeros : ℕ) (a : A) (more : List Bool) → padding_after start seen a at (replicate zeros false ++ true ∷ more) ≡ Refused (BadPadding (at + zeros))
+padding_one : {A : Type 0} (start seen at zeros : ℕ) (a : A) (more : List Bool) →
+    padding_after start seen a at (replicate zeros false ++ true ∷ more) ≡ Refused (BadPadding (at + zeros))
 padding_one start seen at zero a more = ap (λ k. Refused (BadPadding k)) (omega arith)
 padding_one start seen at (suc zeros) a more = padding_one start (suc seen) (suc at) zeros a more ∙ ap (λ k. Refused (BadPadding k)) (omega arith)
 
-padding_long : {A : Type 0} (start seen at zeros : ℕ) (a : A) → 8 ≤ seen + zeros → padding_after start seen a at (replicate zeros false) ≡ Refused (BadPadding (8 * ((start + 7) / 8)))
+padding_long : {A : Type 0} (start seen at zeros : ℕ) (a : A) → 8 ≤ seen + zeros →
+    padding_after start seen a at (replicate zeros false) ≡ Refused (BadPadding (8 * ((start + 7) / 8)))
 padding_long start seen at zero a far =
     ap (λ t. cond t (Got a at []) (Refused (BadPadding (8 * ((start + 7) / 8))))) (le-ltb seen 8 (omega (arith, far)))
 padding_long start seen at (suc zeros) a far = padding_long start (suc seen) (suc at) zeros a (omega (arith, far))
 
-tail_at : (bits : List Bool) (ns : List Node) (two : ℕ) (r : Refusal) → IsShown (slice_get ns (last_of ns)) → (rest : List Bool) → Begins (length ns) ns bits rest two →
+tail_at : (bits : List Bool) (ns : List Node) (two : ℕ) (r : Refusal) → IsShown (slice_get ns (last_of ns)) → (rest : List Bool) →
+    Begins (length ns) ns bits rest two →
     PaddingStops two 0 two rest r → ProgramStops bits r
 tail_at bits ns two r shown rest b (One zeros more is e) =
-    subst (λ (x : Refusal). ProgramStops bits x) (sym e) (PaddingHasOne two zeros ns more (subst (λ (l : List Bool). Begins (length ns) ns bits l two) is b) shown)
+    subst (λ (x : Refusal). ProgramStops bits x) (sym e) (PaddingHasOne two zeros ns more (subst (λ (l : List Bool). Begins
+    (length ns) ns bits l two) is b) shown)
 tail_at bits ns two r shown rest b (Long zeros is far e) =
-    subst (λ (x : Refusal). ProgramStops bits x) (sym e) (PaddingLong two zeros ns (subst (λ (l : List Bool). Begins (length ns) ns bits l two) is b) shown (omega (arith, far)))
+    subst (λ (x : Refusal). ProgramStops bits x) (sym e) (PaddingLong two zeros ns (subst (λ (l : List Bool). Begins
+    (length ns) ns bits l two) is b) shown (omega (arith, far)))
 
 -- the number of nodes and the nodes after it, which were read
 module _ (count one : ℕ) (bits mid : List Bool) (got : read_count 0 bits ≡ Got count one mid) where
@@ -132,7 +140,8 @@ module _ (count one : ℕ) (bits mid : List Bool) (got : read_count 0 bits ≡ G
     tail_refused : (r : Refusal) → is_hidden (slice_get ns (length ns - 1)) ≡ false → PaddingStops two 0 two rest r → ProgramStops bits r
     tail_refused r root stops =
         let some : 0 < count = counted.some in
-        let shown : IsShown (slice_get ns (last_of ns)) = shown_of (slice_get ns (length ns - 1)) (get_there ns (length ns - 1) (omega (arith, some, long))) root in
+        let shown : IsShown (slice_get ns (last_of ns)) = shown_of (slice_get ns (length ns - 1)) (get_there ns (length ns - 1) (omega
+        (arith, some, long))) root in
         tail_at bits ns two r shown rest begins stops
 
 -- a natural that is no number of nodes
@@ -170,8 +179,10 @@ module _ (count at : ℕ) (ns : List Node) (bits rest : List Bool) (b : Begins c
   count_read =
       let some : 0 < count = b.some in let few : count ≤ most_nodes = b.few in
       ap (read_list 0) b.stands
-      ∙ ap (λ x. then (then x (λ n. give_if (nat_le n most_nodes) TooManyNodes n)) onward) (naturals_are_read.gets count 0 (nodes_bits 0 ns ++ rest) b.some (omega (arith, few)))
-      ∙ ap (λ t. then (cond t (Got count (0 + length (natural count)) (nodes_bits 0 ns ++ rest)) (Refused TooManyNodes)) onward) (le-leb count most_nodes b.few)
+      ∙ ap (λ x. then (then x (λ n. give_if (nat_le n most_nodes) TooManyNodes n)) onward) (naturals_are_read.gets count 0
+      (nodes_bits 0 ns ++ rest) b.some (omega (arith, few)))
+      ∙ ap (λ t. then (cond t (Got count (0 + length (natural count)) (nodes_bits 0 ns ++ rest)) (Refused TooManyNodes)) onward)
+      (le-leb count most_nodes b.few)
       ∙ ap (λ k. onward count k (nodes_bits 0 ns ++ rest)) (omega arith)
 
   listed : (more : ℕ) → count ≡ length ns + more → read_list 0 bits ≡ then (read_nodes more ns at rest) shown_root
@@ -186,22 +197,26 @@ module _ (count at : ℕ) (ns : List Node) (bits rest : List Bool) (b : Begins c
 all_listed : (at : ℕ) (ns : List Node) (bits rest : List Bool) → Begins (length ns) ns bits rest at → read_list 0 bits ≡ shown_root ns at rest
 all_listed at ns bits rest b = listed (length ns) at ns bits rest b 0 (omega arith)
 
-all_shown : (at : ℕ) (ns : List Node) (bits rest : List Bool) → Begins (length ns) ns bits rest at → IsShown (slice_get ns (last_of ns)) → read_list 0 bits ≡ Got ns at rest
+all_shown : (at : ℕ) (ns : List Node) (bits rest : List Bool) → Begins (length ns) ns bits rest at → IsShown (slice_get ns (last_of ns)) →
+    read_list 0 bits ≡ Got ns at rest
 all_shown at ns bits rest b shown =
     all_listed at ns bits rest b ∙ ap (λ t. cond t (Refused HiddenRoot) (Got ns at rest)) (not_hidden (slice_get ns (length ns - 1)) shown)
 
 gets : (bytes : List ℕ) (r : Refusal) → ProgramStops (byte_bits bytes) r → read_program bytes ≡ Refused r
 gets bytes _ (CountRefused r h) =
-    ap (λ x. then (then (then x (λ n. give_if (nat_le n most_nodes) TooManyNodes n)) onward) padding) (refusals_are_named.natural_gets 0 (byte_bits bytes) r h)
+    ap (λ x. then (then (then x (λ n. give_if (nat_le n most_nodes) TooManyNodes n)) onward) padding) (refusals_are_named.natural_gets 0
+    (byte_bits bytes) r h)
 gets bytes _ (CountPasses n rest is far fits) =
     ap (λ b. then (read_list 0 b) padding) is
-    ∙ ap (λ x. then (then (then x (λ k. give_if (nat_le k most_nodes) TooManyNodes k)) onward) padding) (naturals_are_read.gets n 0 rest (omega (arith, far)) fits)
+    ∙ ap (λ x. then (then (then x (λ k. give_if (nat_le k most_nodes) TooManyNodes k)) onward) padding) (naturals_are_read.gets n 0 rest (omega
+    (arith, far)) fits)
     ∙ ap (λ t. then (then (cond t (Got n (0 + length (natural n)) rest) (Refused TooManyNodes)) onward) padding) (lt-leb n most_nodes far)
 gets bytes _ (NextRefused count at ns rest r b fewer h) =
     let few : count ≤ most_nodes = b.few in
     let left : count ≡ length ns + suc (count - (length ns + 1)) = omega (arith, fewer) in
     ap (λ x. then x padding) (listed count at ns (byte_bits bytes) rest b (suc (count - (length ns + 1))) left)
-    ∙ ap (λ x. then (then x shown_root) padding) (next_gets ns at rest r (λ m at' bits'. read_nodes (count - (length ns + 1)) (ns ++ m ∷ []) at' bits') (omega (arith, few, fewer)) h)
+    ∙ ap (λ x. then (then x shown_root) padding) (next_gets ns at rest r (λ m at' bits'. read_nodes (count - (length ns + 1))
+    (ns ++ m ∷ []) at' bits') (omega (arith, few, fewer)) h)
 gets bytes _ (RootHidden at ns rest b h) =
     ap (λ x. then x padding) (all_listed at ns (byte_bits bytes) rest b)
     ∙ ap (λ t. then (cond t (Refused HiddenRoot) (Got ns at rest)) padding) (is_so (slice_get ns (length ns - 1)) h)

@@ -27,7 +27,8 @@ pub record StandsAfter (ns : List Node) (n : Node) (bits : List Bool) : Type 0 w
 pub data NextStops (ns : List Node) (at : ℕ) (bits : List Bool) : Refusal → Type 0 where
   NodeRefused : (r : Refusal) → NodeStops (length ns) at bits r → NextStops ns at bits r
   ChildHidden : (n : Node) → StandsAfter ns n bits → (IsCase n → ⊥) → SomeHidden ns (children n) → NextStops ns at bits (HiddenPlace (length ns))
-  SidesHidden : (i j : ℕ) → StandsAfter ns (Case i j) bits → IsHidden (slice_get ns i) → IsHidden (slice_get ns j) → NextStops ns at bits (BothHidden (length ns))
+  SidesHidden : (i j : ℕ) → StandsAfter ns (Case i j) bits → IsHidden (slice_get ns i) → IsHidden (slice_get ns j) →
+      NextStops ns at bits (BothHidden (length ns))
 
 -- a number of nodes within the limit and these nodes stand in the bits, up to a place, fit and are in their places
 pub record Begins (count : ℕ) (ns : List Node) (bits rest : List Bool) (at : ℕ) : Type 0 where
@@ -46,11 +47,15 @@ last_of ns = length ns - 1
 pub data ProgramStops (bits : List Bool) : Refusal → Type 0 where
   CountRefused : (r : Refusal) → NaturalStops 0 bits r → ProgramStops bits r
   CountPasses : (n : ℕ) (rest : List Bool) → bits ≡ natural n ++ rest → most_nodes < n → n < 2 ^ 32 → ProgramStops bits TooManyNodes
-  NextRefused : (count at : ℕ) (ns : List Node) (rest : List Bool) (r : Refusal) → Begins count ns bits rest at → length ns < count → NextStops ns at rest r → ProgramStops bits r
-  RootHidden : (at : ℕ) (ns : List Node) (rest : List Bool) → Begins (length ns) ns bits rest at → IsHidden (slice_get ns (last_of ns)) → ProgramStops bits HiddenRoot
-  PaddingHasOne : (at zeros : ℕ) (ns : List Node) (more : List Bool) → Begins (length ns) ns bits (replicate zeros false ++ true ∷ more) at → IsShown (slice_get ns (last_of ns)) →
+  NextRefused : (count at : ℕ) (ns : List Node) (rest : List Bool) (r : Refusal) → Begins count ns bits rest at → length ns < count →
+      NextStops ns at rest r → ProgramStops bits r
+  RootHidden : (at : ℕ) (ns : List Node) (rest : List Bool) → Begins (length ns) ns bits rest at → IsHidden (slice_get ns (last_of ns)) →
+      ProgramStops bits HiddenRoot
+  PaddingHasOne : (at zeros : ℕ) (ns : List Node) (more : List Bool) → Begins (length ns) ns bits (replicate zeros false ++ true ∷ more) at →
+      IsShown (slice_get ns (last_of ns)) →
       ProgramStops bits (BadPadding (at + zeros))
-  PaddingLong : (at zeros : ℕ) (ns : List Node) → Begins (length ns) ns bits (replicate zeros false) at → IsShown (slice_get ns (last_of ns)) → 8 ≤ zeros →
+  PaddingLong : (at zeros : ℕ) (ns : List Node) → Begins (length ns) ns bits (replicate zeros false) at → IsShown (slice_get ns (last_of ns)) →
+      8 ≤ zeros →
       ProgramStops bits (BadPadding (8 * ((at + 7) / 8)))
 
 -- a program is refused exactly so
