@@ -1,6 +1,6 @@
 //! What a command answers, before it is written.
 
-ghost use Rattle.std.specs.Prelude.{◌≡◌, ◌≤◌, IfOk, length, map};
+ghost use Rattle.std.specs.Prelude.{◌≡◌, ◌≤◌, ◌<◌, ◌∷◌, IfOk, length, map};
 ghost use Rattle.command_outcome.specs.Stops.{GivesLine};
 ghost use Rattle.command_words.specs.Asked.{evaluation_of, reading_of};
 ghost use Rattle.command_words.specs.Words.{reading, texts};
@@ -75,10 +75,27 @@ fn answer(alloc: Global, asked: Asked<'_>, found: &[Vec<u8>]) -> Result<String, 
     ensures { GivesLine (AfterFiles (reading_of asked.entry) (texts_of found.now)) result }
 {
     match asked {
-        Asked::Build { function, .. } => build_source(alloc, found[0].as_slice(), function),
-        Asked::Eval(asked) => evaluate(alloc, asked, found[0].as_slice(), &found[1..]),
+        Asked::Build { function, .. } => {
+            let (source, _) = source_in(found);
+            build_source(alloc, source, function)
+        }
+        Asked::Eval(asked) => {
+            let (source, rest) = source_in(found);
+            evaluate(alloc, asked, source, rest)
+        }
         Asked::Misfit(index) => Err(refused_words(alloc, index)),
     }
+}
+
+/// The bytes of the source, which is read first, and the files after it.
+fn source_in(found: &[Vec<u8>]) -> (&[u8], &[Vec<u8>])
+    requires { 0 < length found.now }
+    ensures { texts_of found.entry.now ≡ result.0.now ∷ texts_of result.1.now }
+{
+    let Some((source, rest)) = found.split_first() else {
+        unreachable!();
+    };
+    (source.as_slice(), rest)
 }
 
 /// Evaluates a function of a source, with the bytes of the data files that are named.
