@@ -5,12 +5,13 @@ use Rattle.outside.specs.Sink.{SinkState, Gained}
 use Rattle.command_outcome.specs.declared.status.Status.{Status}
 use Rattle.command_outcome.specs.declared.status.Status.TheVariants.{Done, SourceRefused, WordsRefused, ProgramFailed, ReadFault, WriteFault, NoMemory, BitsRefused, DataRefused, LimitReached}
 use Rattle.command_outcome.specs.Answer.{Answer, AreSettled}
-use Rattle.command_words.specs.Words.{Reading, BuildOf, EvalOf, Misfit}
-use Rattle.eval_command.proofs.One.{settled_evaluation}
+use Rattle.command_files.specs.Files.{Contents}
+use Rattle.command_files.proofs.Whole.{files_lack}
+use Rattle.command_words.specs.Words.{Reading}
 use Rattle.top_call.specs.Answer.{IsAllowed, outcome, read_fault, no_memory, IsAnswer, on_err, on_out, Took}
 use Rattle.top_call.specs.Answered.{IsPut, IsDelivered}
-use Rattle.top_call.specs.Outcome.{Contents, IsFileRead, IsDataRead, IsOutcome, IsBuildOutcome, given, most_source, most_data, not_held, too_long, whole}
-use Rattle.top_call.proofs.Small.{settled_build}
+use Rattle.top_call.specs.Outcome.{AfterFiles, IsOutcome, files_of}
+use Rattle.top_call.proofs.Allowed.{settled_after}
 
 gained_nothing : (contents : Option (List ℕ)) → Gained contents contents []
 gained_nothing (Some bytes) = ap Some (sym (append-nil bytes))
@@ -26,23 +27,12 @@ NoWrite A = (o e : List ℕ) → A WriteFault o e → ⊥
 no_write_settled : (A : Answer) → AreSettled A → NoWrite A
 no_write_settled A settled o e a = settled WriteFault o e a
 
-no_write_file : (name : List ℕ) (most : ℕ) (limit : List ℕ) (Next : List ℕ → Answer) → ((bytes : List ℕ) → NoWrite (Next bytes)) → (file : Option (List ℕ)) → NoWrite (IsFileRead name most limit Next file)
-no_write_file name most limit Next each file o e (not_held none is) = let w : WriteFault ≡ ReadFault = is.status_is in absurd (cc)
-no_write_file name most limit Next each file o e (too_long bytes here long is) = let w : WriteFault ≡ LimitReached = is.status_is in absurd (cc)
-no_write_file name most limit Next each file o e (whole bytes here few is) = each bytes o e is
-
-no_write_data : (named : Option (List ℕ)) (Next : Option (List ℕ) → Answer) → ((file : Option (List ℕ)) → NoWrite (Next file)) → (file : Option (List ℕ)) → NoWrite (IsDataRead named Next file)
-no_write_data None Next each file o e a = each None o e a
-no_write_data (Some name) Next each file o e a = no_write_file name most_data _ (λ bytes. Next (Some bytes)) (λ bytes. each (Some bytes)) file o e a
-
-no_write_outcome : (reading : Reading) (files : Contents) → NoWrite (IsOutcome reading files)
-no_write_outcome (Misfit index) files o e a = let w : WriteFault ≡ WordsRefused = a.status_is in absurd (cc)
-no_write_outcome (BuildOf file asked) files o e a = no_write_file file most_source _ (IsBuildOutcome asked) (λ text. no_write_settled _ (settled_build asked text)) files.source o e a
-no_write_outcome (EvalOf asked) files o e a =
-    no_write_file asked.file most_source _ _ (λ text. no_write_data asked.args _ (λ args. no_write_data asked.witness _ (λ witness. no_write_settled _ (settled_evaluation (given asked args witness) text)) files.witness) files.args) files.source o e a
+no_write_outcome : (reading : Reading) (contents : Contents) → NoWrite (IsOutcome reading contents)
+no_write_outcome reading contents o e a =
+    files_lack WriteFault o e (λ is. let w : WriteFault ≡ ReadFault = is in absurd (cc)) (λ is. let w : WriteFault ≡ LimitReached = is in absurd (cc)) (files_of reading) (AfterFiles reading) (λ found. no_write_settled _ (settled_after reading found) o e) contents a
 
 no_write_allowed : (reading : Reading) (before after : StoreState) → NoWrite (IsAllowed reading before after)
-no_write_allowed reading before after o e (outcome files holds is counted names) = no_write_outcome reading files o e is
+no_write_allowed reading before after o e (outcome contents holds is counted names) = no_write_outcome reading contents o e is
 no_write_allowed reading before after o e (read_fault file last risen is) = let w : WriteFault ≡ ReadFault = is.status_is in absurd (cc)
 no_write_allowed reading before after o e (no_memory is) = let w : WriteFault ≡ NoMemory = is.status_is in absurd (cc)
 

@@ -2,4 +2,3 @@ mod Allowed
 mod Answering
 mod OneOutcome
 mod Small
-mod Reading

@@ -1,18 +1,21 @@
 -- The answers to a program as a small source.
-use Rattle.std.proofs.Common.{◌≡◌, ℕ, ◌+◌, List, [], Option, Some, None, Result, refl, sym, ap, ◌∙◌, codes}
+use Rattle.std.proofs.Common.{◌≡◌, ℕ, ◌+◌, List, [], Option, Some, None, Result, refl, sym, ap, ◌∙◌}
 use Rattle.std.specs.declared.string.String.{String}
 use Rattle.hl_syntax.specs.declared.tree.Item.{Item}
+use Rattle.hl_syntax.specs.declared.rules.Rule.TheVariants.{K4}
 use Rattle.small_source.specs.Small.{Small, IsSmall}
 use Rattle.small_source.proofs.Complete.{one_function}
 use Rattle.small_terms.specs.Result.{Span, first_unknown}
-use Rattle.command_outcome.specs.declared.status.Status.TheVariants.{Done, SourceRefused}
+use Rattle.command_outcome.specs.declared.names.SourceCause.TheVariants.{Broken, NotYet}
+use Rattle.command_outcome.specs.declared.status.Status.TheVariants.{Done}
 use Rattle.command_outcome.specs.declared.stop.Stop.{Stop}
 use Rattle.command_outcome.specs.Answer.{IsOneIn, AreSettled, Never}
+use Rattle.command_outcome.specs.Refusals.{IsRefusedAt}
 use Rattle.command_outcome.specs.Source.{IsProgram, IsSource}
-use Rattle.command_outcome.specs.Stops.{Gives, IsStop, Stops}
+use Rattle.command_outcome.specs.Stops.{GivesLine, Stops}
 use Rattle.command_outcome.specs.Texts.{source_line}
 use Rattle.command_outcome.proofs.OneSource.{one_refusal, same_refusal, settled_refusal, settled_done, settled_source, further_source, read_source}
-use Rattle.command_outcome.proofs.Stopping.{refused, stops_in, gives_in}
+use Rattle.command_outcome.proofs.Stopping.{stops_in, gives_in}
 use Rattle.top_call.specs.Build.{IsBuild}
 use Rattle.top_call.specs.Built.{HasUnknown}
 use Rattle.top_call.specs.Outcome.{IsBuildOutcome, IsSmallOutcome, not_small, unknown_name, built}
@@ -37,7 +40,7 @@ count_of : Option Span → ℕ
 count_of None = 0
 count_of (Some span) = span.1
 
-same_line : (i m j n : ℕ) → ◌≡◌ {A = Option Span} (Some (i, m)) (Some (j, n)) → source_line (codes "K4") i (i + m) ≡ source_line (codes "K4") j (j + n)
+same_line : (i m j n : ℕ) → ◌≡◌ {A = Option Span} (Some (i, m)) (Some (j, n)) → source_line (Broken K4) i (i + m) ≡ source_line (Broken K4) j (j + n)
 unfolding start_of count_of
 same_line i m j n same =
     let starts : i ≡ j = ap start_of same in
@@ -62,13 +65,16 @@ one_small text asked s t o p e f (built line build a) (unknown_name g j n small 
 one_small text asked s t o p e f (built line build a) (built line' build' b) = (a.status_is ∙ sym b.status_is, (refl, a.nothing ∙ sym b.nothing))
 
 -- what the code answers
-pub unknown_stops : (text asked : List ℕ) (start count : ℕ) (stop : Stop) → HasUnknown text asked start count → IsStop SourceRefused (source_line (codes "K4") start (start + count)) stop → Stops (IsSmallOutcome text asked) stop
-unknown_stops text asked start count stop has is = refused (IsSmallOutcome text asked) _ _ stop is (λ s o e a. unknown_name has.function start count has.small has.unknown a)
+pub unknown_stops : (text asked : List ℕ) (start count : ℕ) (stop : Stop) → HasUnknown text asked start count → Stops (IsRefusedAt (Broken K4) start (start + count)) stop → Stops (IsSmallOutcome text asked) stop
+unknown_stops text asked start count stop has is = stops_in (IsRefusedAt (Broken K4) start (start + count)) (IsSmallOutcome text asked) stop (λ s o e a. unknown_name has.function start count has.small has.unknown a) is
+
+pub no_small_stops : (text asked : List ℕ) (stop : Stop) → ((f : Small) → ¬ IsSmall text asked f) → Stops (IsRefusedAt NotYet 0 0) stop → Stops (IsSmallOutcome text asked) stop
+no_small_stops text asked stop none is = stops_in (IsRefusedAt NotYet 0 0) (IsSmallOutcome text asked) stop (λ s o e a. not_small none a) is
 
 pub line_given : (text asked line : List ℕ) → IsBuild text asked line → IsSmallOutcome text asked Done line []
 line_given text asked line is = built line is (record { status_is = refl; text_is = refl; nothing = refl })
 
-pub build_read : {G : Type 0} (asked text : List ℕ) (tree : List Item) (r : Result (String G) Stop) → IsProgram text tree → Gives (IsSmallOutcome text asked) r → Gives (IsBuildOutcome asked text) r
+pub build_read : {G : Type 0} (asked text : List ℕ) (tree : List Item) (r : Result (String G) Stop) → IsProgram text tree → GivesLine (IsSmallOutcome text asked) r → GivesLine (IsBuildOutcome asked text) r
 build_read asked text tree r is given = gives_in (IsSmallOutcome text asked) (IsBuildOutcome asked text) r (λ s o e a. read_source (λ _. IsSmallOutcome text asked) text tree s o e is a) given
 
 pub build_stops : (asked text : List ℕ) (stop : Stop) → Stops (IsSource text (λ _. Never)) stop → Stops (IsBuildOutcome asked text) stop

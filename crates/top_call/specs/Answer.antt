@@ -1,7 +1,7 @@
 -- What an answer of the top call says: of its outcome, of reads, of faults and of memory.
-use Rattle.std.specs.Prelude.{◌≡◌, ◌⊎◌, ℕ, zero, suc, ◌≤◌, List, [], ◌∷◌, length, map, slice_get, Option, Some, None, IsSome}
-use Rattle.outside.specs.Counts.{raised, HasRisen}
-use Rattle.outside.specs.Files.{Held, StoreState}
+use Rattle.std.specs.Prelude.{◌≡◌, ◌⊎◌, ℕ, suc, List, [], map, slice_get, Some}
+use Rattle.outside.specs.Counts.{HasRisen}
+use Rattle.outside.specs.Files.{StoreState}
 use Rattle.outside.specs.Sink.{SinkState, Gained, GainedFront}
 use Rattle.command_outcome.specs.declared.status.Status.{Status}
 use Rattle.command_outcome.specs.declared.status.Status.TheVariants.{Done, ReadFault, WriteFault, NoMemory}
@@ -9,30 +9,9 @@ use Rattle.command_outcome.specs.Answer.{IsRefusal}
 use Rattle.command_outcome.specs.Texts.{read_line, no_memory_line, write_line}
 use Rattle.command_outcome.specs.Refusals.{IsUnreadable}
 use Rattle.command_words.specs.Words.{Reading}
-use Rattle.top_call.specs.Files.{Contents, File, files_of}
-use Rattle.top_call.specs.Outcome.{IsOutcome, reads_of}
-
--- what a named file holds: what is told, and where nothing is told some bytes
-abbrev pub Holds : Held → List ℕ → Option (List ℕ) → Type 0
-Holds (Some file_of) name file = file_of name ≡ file
-Holds None name file = IsSome file
-
--- and what each of some files holds
-abbrev pub HoldEach : Held → List File → Contents → Type 0
-HoldEach held [] [] = Unit {0}
-HoldEach held (file ∷ files) (content ∷ contents) = Holds held file.name content × HoldEach held files contents
-HoldEach held files contents = ⊥
-
--- a count of reads after so many more
-abbrev pub raises : ℕ → ℕ → ℕ
-raises zero count = count
-raises (suc more) count = raised (raises more count)
-
--- of these files so many were read, each once, the first ones
-pub record HasReadOf (files : List File) (before after : StoreState) : Type 0 where
-  pub count : ℕ
-  pub within : count ≤ length files
-  pub are : after.reads ≡ raises count before.reads
+use Rattle.command_files.specs.Files.{Contents, HoldEach}
+use Rattle.command_files.specs.Reads.{HasReadOf, raises}
+use Rattle.top_call.specs.Outcome.{IsOutcome, files_of, reads_of}
 
 -- of the files that the words name
 abbrev pub HasRead : Reading → StoreState → StoreState → Type 0

@@ -1,5 +1,4 @@
 pub mod Build
-pub mod Files
 pub mod Outcome
 pub mod Answer
 pub mod Built

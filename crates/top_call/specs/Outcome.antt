@@ -1,5 +1,5 @@
 -- The outcome of a command: its status and its texts, by its words and by the files that they name.
-use Rattle.std.specs.Prelude.{◌≡◌, ℕ, ◌+◌, List, [], ◌∷◌, Option, Some}
+use Rattle.std.specs.Prelude.{◌≡◌, ℕ, ◌+◌, List, [], ◌∷◌, ◌++◌, Option, Some, None}
 use Rattle.hl_syntax.specs.declared.rules.Rule.TheVariants.{K4}
 use Rattle.small_source.specs.Small.{Small, IsSmall}
 use Rattle.small_terms.specs.Result.{first_unknown}
@@ -12,7 +12,7 @@ use Rattle.command_words.specs.Editions.{number_of}
 use Rattle.command_words.specs.Words.{Evaluation, Reading, BuildOf, EvalOf, Misfit}
 use Rattle.eval_command.specs.Evaluation.{Given, IsEvaluation}
 use Rattle.top_call.specs.Build.{IsBuild}
-use Rattle.top_call.specs.Files.{AreRead, Contents, after_named, files_of, next_named, reads_in}
+use Rattle.command_files.specs.Files.{AreRead, Contents, File, after_named, data_file, next_named, reads_in, source_file}
 
 -- of a text that is a program
 pub data IsSmallOutcome (text asked : List ℕ) (status : Status) (out err : List ℕ) : Type 0 where
@@ -25,6 +25,16 @@ IsBuildOutcome asked text = IsSource text (λ tree. IsSmallOutcome text asked)
 
 abbrev pub given : Evaluation → Option (List ℕ) → Option (List ℕ) → Given
 given asked args witness = record { asked = record { function = asked.function; edition = number_of asked.edition; args = args }; witness = witness; input = asked.input }
+
+-- the files that the words name, in the order in which they are read
+abbrev pub if_named : Option (List ℕ) → List File
+if_named None = []
+if_named (Some name) = data_file name ∷ []
+
+abbrev pub files_of : Reading → List File
+files_of (BuildOf file asked) = source_file file ∷ []
+files_of (EvalOf asked) = source_file asked.file ∷ (if_named asked.args ++ if_named asked.witness)
+files_of (Misfit index) = []
 
 -- of the files after the source, which were read
 abbrev pub IsEvalOutcome : Evaluation → List ℕ → List (List ℕ) → Answer

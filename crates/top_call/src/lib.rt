@@ -2,7 +2,6 @@
 #![tactic(auto)]
 
 mod build;
-mod files;
 mod outcome;
 mod top;
 

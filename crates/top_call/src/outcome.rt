@@ -1,18 +1,16 @@
 //! What a command answers, before it is written.
 
-ghost use Rattle.std.specs.Prelude.{◌≡◌, ◌≤◌, ◌<◌, IfOk, length, map};
-ghost use Rattle.std.specs.Option.{option_copied};
+ghost use Rattle.std.specs.Prelude.{◌≡◌, ◌≤◌, ◌<◌, ◌∷◌, IfOk, length, map};
 ghost use Rattle.command_outcome.specs.Stops.{GivesLine};
 ghost use Rattle.command_words.specs.Asked.{evaluation_of, reading_of};
 ghost use Rattle.command_words.specs.Words.{reading, texts};
 ghost use Rattle.top_call.specs.Answer.{HasRead, IsAllowed};
-ghost use Rattle.top_call.specs.Answered.{file_of, texts_of};
-ghost use Rattle.top_call.specs.Files.{after_named, files_of, next_named};
-ghost use Rattle.top_call.specs.Outcome.{AfterFiles, EvalOutcomeIsOne, IsEvalOutcome, OutcomeIsOne};
+ghost use Rattle.command_files.specs.Reads.{file_of, texts_of};
+ghost use Rattle.top_call.specs.Outcome.{files_of, AfterFiles, EvalOutcomeIsOne, IsEvalOutcome, OutcomeIsOne};
 
 use crate::build::build_source;
-use crate::files::{NamedFile, read_files};
 use checked_source::AskedSource;
+use command_files::{NamedFile, next_named, read_files};
 use command_outcome::{Stop, refused_words};
 use command_words::{Asked, EvalWords, read_words};
 use eval_command::{GivenWords, evaluate_source, one_evaluation_law};
@@ -73,10 +71,27 @@ fn answer(alloc: Global, asked: Asked<'_>, found: &[Vec<u8>]) -> Result<String, 
     ensures { GivesLine (AfterFiles (reading_of asked.entry) (texts_of found.now)) result }
 {
     match asked {
-        Asked::Build { function, .. } => build_source(alloc, found[0].as_slice(), function),
-        Asked::Eval(asked) => evaluate(alloc, asked, found[0].as_slice(), &found[1..]),
+        Asked::Build { function, .. } => {
+            let (source, _) = source_in(found);
+            build_source(alloc, source, function)
+        }
+        Asked::Eval(asked) => {
+            let (source, rest) = source_in(found);
+            evaluate(alloc, asked, source, rest)
+        }
         Asked::Misfit(index) => Err(refused_words(alloc, index)),
     }
+}
+
+/// The bytes of the source, which is read first, and the files after it.
+fn source_in(found: &[Vec<u8>]) -> (&[u8], &[Vec<u8>])
+    requires { 0 < length found.now }
+    ensures { texts_of found.entry.now ≡ result.0.now ∷ texts_of result.1.now }
+{
+    let Some((source, rest)) = found.split_first() else {
+        unreachable!();
+    };
+    (source.as_slice(), rest)
 }
 
 /// Evaluates a function of a source, with the bytes of the data files that are named.
@@ -100,17 +115,6 @@ fn evaluate(
         input: asked.input,
     };
     evaluate_source(alloc, source, given)
-}
-
-/// Of files that were read, the bytes of that of a word which may name one, and the files after it.
-fn next_named<'a>(name: Option<&str>, found: &'a [Vec<u8>]) -> (Option<&'a [u8]>, &'a [Vec<u8>])
-    ensures next { option_copied result.0 ≡ next_named (option_copied name.entry) (texts_of found.entry.now) }
-    ensures rest { texts_of result.1.now ≡ after_named (option_copied name.entry) (texts_of found.entry.now) }
-{
-    match (name, found.split_first()) {
-        (Some(_), Some((bytes, rest))) => (Some(bytes.as_slice()), rest),
-        _ => (None, found),
-    }
 }
 
 /// The law that an outcome is one: its status, and its text for standard error; of an evaluation its

@@ -1,10 +1,9 @@
-//! The files that the words name.
+//! Files by their names and limits, and reading them.
 
 ghost use Rattle.std.specs.Prelude.{◌≡◌, ◌≤◌, map};
 ghost use Rattle.outside.specs.Counts.{raised};
-ghost use Rattle.top_call.specs.Answer.{HasReadOf};
-ghost use Rattle.top_call.specs.Answered.{AreReadFrom, IsFileFrom, file_of};
-ghost use Rattle.top_call.specs.Files.{data_file, source_file};
+ghost use Rattle.command_files.specs.Files.{data_file, source_file};
+ghost use Rattle.command_files.specs.Reads.{AreReadFrom, HasReadOf, IsFileFrom, file_of};
 
 use command_outcome::{Stop, passed_limit, unread_file};
 use hl_syntax::Limit;

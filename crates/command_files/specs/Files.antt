@@ -1,12 +1,12 @@
--- Files that the words name, and what they hold: read one after the other, up to the first that isn't read.
-use Rattle.std.specs.Prelude.{◌≡◌, ℕ, suc, ◌<◌, ◌≤◌, nat_le, List, [], ◌∷◌, ◌++◌, length, Option, Some, None, if◌then◌else◌}
+-- Files that are read one after the other, up to the first that isn't read, and what they hold.
+use Rattle.std.specs.Prelude.{◌≡◌, ℕ, suc, ◌<◌, ◌≤◌, nat_le, List, [], ◌∷◌, length, Option, Some, None, IsSome, if◌then◌else◌}
 use Rattle.hl_syntax.specs.declared.rules.Limit.{Limit}
 use Rattle.hl_syntax.specs.declared.rules.Limit.TheVariants.{L1, L10}
 use Rattle.command_outcome.specs.declared.status.Status.{Status}
 use Rattle.command_outcome.specs.Answer.{Answer, Never}
 use Rattle.command_outcome.specs.Leads.{Step}
 use Rattle.command_outcome.specs.Refusals.{IsPassed, IsUnreadable}
-use Rattle.command_words.specs.Words.{Reading, BuildOf, EvalOf, Misfit}
+use Rattle.outside.specs.Files.{Held}
 
 -- the greatest source and the greatest data file, in bytes
 abbrev pub most_source : ℕ
@@ -27,19 +27,20 @@ source_file name = record { name = name; most = most_source; limit = L1 }
 abbrev pub data_file : List ℕ → File
 data_file name = record { name = name; most = most_data; limit = L10 }
 
--- the files that the words name, in the order in which they are read
-abbrev pub if_named : Option (List ℕ) → List File
-if_named None = []
-if_named (Some name) = data_file name ∷ []
-
-abbrev pub files_of : Reading → List File
-files_of (BuildOf file asked) = source_file file ∷ []
-files_of (EvalOf asked) = source_file asked.file ∷ (if_named asked.args ++ if_named asked.witness)
-files_of (Misfit index) = []
-
 -- what files hold, one beside each file
 abbrev pub Contents : Type 0
 Contents = List (Option (List ℕ))
+
+-- what a named file holds: what is told, and where nothing is told some bytes
+abbrev pub Holds : Held → List ℕ → Option (List ℕ) → Type 0
+Holds (Some contents_of) name content = contents_of name ≡ content
+Holds None name content = IsSome content
+
+-- and what each of some files holds
+abbrev pub HoldEach : Held → List File → Contents → Type 0
+HoldEach held [] [] = Unit {0}
+HoldEach held (file ∷ files) (content ∷ contents) = Holds held file.name content × HoldEach held files contents
+HoldEach held files contents = ⊥
 
 -- of a file by what it holds: there is none, or it is longer than the limit, or its bytes decide
 pub data IsFileRead (file : File) (content : Option (List ℕ)) (Next : List ℕ → Answer) (status : Status) (out err : List ℕ) : Type 0 where

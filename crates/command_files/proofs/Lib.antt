@@ -1,0 +1,3 @@
+mod Reading
+mod Reached
+pub mod Whole
