@@ -8,9 +8,9 @@ use hl_check::{TypedProgram, check};
 use hl_data::{Entries, Entry, HlValue};
 use hl_eval::{EvalFault, evaluate};
 use hl_lex::tokens;
-use hl_parse::{parse, parse_type};
-use hl_syntax::{Aliases, HlType};
-use hl_types::resolve;
+use hl_parse::parse;
+use hl_syntax::HlType;
+use hl_type_texts::read_type;
 use hl_values::{print_value, read_value};
 use lists::Text;
 use std::alloc::{AllocError, Global};
@@ -325,9 +325,7 @@ fn checked(alloc: Global, text: &str, name: &str, params: &Entries) -> Result<Ty
 fn kind_of(alloc: Global, text: &str) -> Result<HlType, Fail>
     ensures { IfOk result IsSound }
 {
-    let found = tokens(alloc, text)?;
-    let tree = parse_type(alloc, found.as_slice(), text.len() as u64)?;
-    Ok(resolve(alloc, &tree, &Aliases::new(alloc))?)
+    Ok(read_type(alloc, text)?)
 }
 
 /// The printed text of an answer, or why there is none.

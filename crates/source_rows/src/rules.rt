@@ -272,3 +272,58 @@ fn witnesses_in_order(rt: HostRuntime) -> Result<(), Fail> {
     }
     Ok(())
 }
+
+/// Sources with a witness that stands twice, and where K17 is broken in edition 1 and in edition 2.
+static TWICE: [(&str, Span, Option<Span>); 3] = [
+    (
+        "fn main() { assert!(jet::eq_8(witness::X, 7)); assert!(jet::eq_8(witness::X, 7)); }",
+        Span { start: 74, end: 75 },
+        None,
+    ),
+    (
+        "fn main() { let a: u8 = witness::X; let b: u16 = witness::X; }",
+        Span { start: 58, end: 59 },
+        Some(Span { start: 58, end: 59 }),
+    ),
+    (
+        "fn main() { let a: u8 = witness::X; let b: bool = witness::Y; let c: u8 = witness::X; }",
+        Span { start: 83, end: 84 },
+        None,
+    ),
+];
+
+/// A refusal by K17.
+fn repeated(span: Span) -> CheckRefusal {
+    CheckRefusal::Rule {
+        rule: Rule::K17,
+        span,
+    }
+}
+
+#[test]
+fn witnesses_of_both_editions(rt: HostRuntime) -> Result<(), Fail> {
+    let params = entries(rt.alloc())?;
+    for (text, first, second) in TWICE.iter() {
+        let program = tree_of(rt.alloc(), text)?;
+        let end = text.len() as u64;
+        let refusal = check(rt.alloc(), &program, "main", &params, 1, end).err();
+        assert_eq!(rt; refusal, Some(repeated(*first)), "at {text}");
+        let refusal = check(rt.alloc(), &program, "main", &params, 2, end).err();
+        assert_eq!(rt; refusal, second.map(repeated), "at {text}");
+    }
+    Ok(())
+}
+
+#[test]
+fn witnesses_at_their_first_places(rt: HostRuntime) -> Result<(), Fail> {
+    let params = entries(rt.alloc())?;
+    let text = TWICE[2].0;
+    let program = tree_of(rt.alloc(), text)?;
+    let found = check(rt.alloc(), &program, "main", &params, 2, text.len() as u64)?;
+    assert_eq!(rt; found.edition(), 2);
+    assert_eq!(rt; found.witnesses().len(), 2);
+    for (one, wanted) in found.witnesses().as_slice().iter().zip(["X", "Y"].iter()) {
+        assert_eq!(rt; one.name.as_str(), *wanted);
+    }
+    Ok(())
+}
