@@ -34,7 +34,11 @@ pub struct AskedSource<'a> {
 /// # Errors
 ///
 /// The first refusal in the order: the source, the parameters' entries, the rules and limits.
-pub fn check_source(alloc: Global, source: &[u8], asked: AskedSource<'_>) -> Result<TypedProgram, Stop>
+pub fn check_source(
+    alloc: Global,
+    source: &[u8],
+    asked: AskedSource<'_>,
+) -> Result<TypedProgram, Stop>
     requires { IsEdition asked.edition }
     ensures checked { Leads (IsCheckedSource (asking_of asked.entry) source.now) result }
     ensures there { IfOk result (λ program. IsTrue (has_function program.functions asked.entry.function.now)) }

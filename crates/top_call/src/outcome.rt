@@ -29,11 +29,7 @@ pub fn compose<F: Files>(alloc: Global, words: &[String], files: &mut F) -> Resu
 }
 
 /// The text of what is asked for: the files are read in their order, and then it is answered.
-fn compose_asked<F: Files>(
-    alloc: Global,
-    asked: Asked<'_>,
-    files: &mut F,
-) -> Result<String, Stop>
+fn compose_asked<F: Files>(alloc: Global, asked: Asked<'_>, files: &mut F) -> Result<String, Stop>
     ensures held { (F.state files.new).held ≡ (F.state files.old).held }
     ensures reads { HasRead (reading_of asked.entry) (F.state files.old) (F.state files.new) }
     ensures never_fall { (F.state files.old).faults ≤ (F.state files.new).faults }
