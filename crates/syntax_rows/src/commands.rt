@@ -14,7 +14,10 @@ fn strings(alloc: Global, words: &[&str]) -> Result<Vec<String>, AllocError> {
 
 #[test]
 fn keys_come_in_any_order(rt: HostRuntime) -> Result<(), Fail> {
-    let words = strings(rt.alloc(), &["eval", "a=b", "input=x=1", "edition=2", "wit=w", "fn=f"])?;
+    let words = strings(
+        rt.alloc(),
+        &["eval", "a=b", "input=x=1", "edition=2", "wit=w", "fn=f"],
+    )?;
     let Asked::Eval(asked) = read_words(words.as_slice()) else {
         return Err(Fail::new("the words are not taken"));
     };
