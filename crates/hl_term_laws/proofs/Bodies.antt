@@ -20,7 +20,7 @@ use Rattle.simplicity.specs.Canon.{Declared}
 use Rattle.simplicity.specs.Makes.{pair, tuple, witness}
 use Rattle.simplicity.specs.Types.{Value}
 use Rattle.simplicityhl.specs.Kinds as kinds
-use Rattle.simplicityhl.specs.Kinds.{IsSound, bound_level, is_bound}
+use Rattle.simplicityhl.specs.Kinds.{IsSound, is_sound, bound_level, is_bound}
 use Rattle.simplicityhl.specs.Tokens.{decimal_value}
 use Rattle.hl_meaning.proofs.Forms.{mean-Let, mean-Plain, mean-Block, mean-Match, mean-Tuple, mean-Array, mean-List, mean-Assert, mean-Dbg, mean-Panic, mean-Jet, mean-Witness, mean-Value, mean-Into, mean-Unwrap, mean-UnwrapLeft, mean-UnwrapRight, mean-IsNone, mean-Left, mean-Right, mean-Some, mean-Nothing, mean-True, mean-False, mean-Literal, mean-Call, mean-Name, mean-Fold, mean-ArrayFold, mean-ForWhile, arm-side, arm-body}
 use Rattle.hl_meaning.specs.Answer.{and_then, known, shaped}
@@ -28,7 +28,7 @@ use Rattle.hl_meaning.specs.Jets.{jet_answer}
 use Rattle.hl_meaning.specs.Loops.{folded, counted, is_counter_width}
 use Rattle.hl_meaning.specs.Mean.{Function, Meaning, ArmMeaning, mean, mean_arm, mean_statement, matched, block_of, all_in, converted, number_at, items_in_list, items_in_array, counter_width}
 use Rattle.hl_meaning.specs.Scopes.{Binding, meant}
-use Rattle.hl_meaning.specs.Values.{encoded, is_sound}
+use Rattle.hl_meaning.specs.Values.{encoded}
 use Rattle.hl_rules.specs.Exprs.{param_types, jet_named, jet_arguments, jet_result}
 use Rattle.jets.specs.Jet.{Row}
 use Rattle.hl_rules.specs.Places.{Scope, variable_type}

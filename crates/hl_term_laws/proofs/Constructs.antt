@@ -18,14 +18,14 @@ use Rattle.hl_meaning.specs.Loops.{Calls, folded}
 use Rattle.hl_meaning.specs.Literals.{literal_value}
 use Rattle.hl_meaning.specs.Mean.{Meaning, ArmMeaning, all_in, made_of, taking, asserted, unwrapped, unwrapped_left, unwrapped_right, none_tested, number_at, converted, are_alike, matched, empty}
 use Rattle.hl_meaning.specs.Scopes.{Binding, meant, bound}
-use Rattle.hl_meaning.specs.Values.{encoded, decoded, at_each, word_at, is_sound, same_kind}
+use Rattle.hl_meaning.specs.Values.{encoded, decoded, at_each, word_at, same_kind}
 use Rattle.simplicity.specs.Canon.{Declared, erased}
 use Rattle.simplicity.specs.Terms as bare
 use Rattle.simplicity.specs.Terms.{meaning, paired, on_tag, on_first as at_first, on_second as at_second}
 use Rattle.simplicity.specs.Tuples.{tuple_value, tuple_kind}
 use Rattle.simplicity.specs.Types.{Kind, One, Sum, Product, Value, UnitValue, Inl, Inr, Pair, word_value}
 use Rattle.simplicity.specs.Widths.{level_of}
-use Rattle.simplicityhl.specs.Kinds.{form, form_step}
+use Rattle.simplicityhl.specs.Kinds.{form, form_step, is_sound}
 use Rattle.simplicity.specs.Arrows.{IsTypedTerm}
 use Rattle.simplicity.specs.Arrows as row
 use Rattle.hl_term_laws.specs.Renders.{Computes, Scoped, ScopedIgnored, ScopedBoth, Renders, AreGiven, RendersLoop, over_items, Recodes}
