@@ -1,0 +1,6 @@
+mod Counting
+mod Typed
+mod Alone
+mod Trees
+mod Subterms
+mod Canonical

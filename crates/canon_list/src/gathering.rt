@@ -1,0 +1,64 @@
+//! The arrows and the names of the nodes that a list's root reaches.
+
+ghost use Rattle.std.specs.Prelude.{◌≡◌, ◌≤◌, length, map, IfOk};
+ghost use Rattle.std.specs.List.{range_with_len};
+ghost use Rattle.simplicity.specs.Canon.{names_at};
+ghost use Rattle.simplicity.specs.Nodes.{AreUnder, witness_number};
+ghost use Rattle.simplicity.specs.Pruning.{numbers_at};
+ghost use Rattle.canon_list.specs.Canons.{arrows_at};
+
+use infer_cells::Typing;
+use std::alloc::{AllocError, Global};
+use term_core::{ListNode, NodeList};
+
+/// The arrows of these nodes, in their order.
+pub(crate) fn gather_arrows(
+    alloc: Global,
+    arrows: &Typing,
+    order: &[usize],
+) -> Result<Typing, AllocError>
+    requires { AreUnder (length arrows.now) order.now }
+    ensures { IfOk result (λ typing. typing ≡ arrows_at arrows.now order.now) }
+{
+    let mut gathered = Typing::new(alloc);
+    for node in order {
+        gathered.push(*arrows.get(*node))?;
+    }
+    Ok(gathered)
+}
+
+/// The names of the witness nodes among these nodes, in their order.
+pub(crate) fn gather_names(
+    alloc: Global,
+    nodes: &NodeList,
+    names: &[usize],
+    order: &[usize],
+) -> Result<Vec<usize>, AllocError>
+    requires named { witness_number nodes.now (length nodes.now) ≤ length names.now }
+    requires within { AreUnder (length nodes.now) order.now }
+    ensures { IfOk result (λ r. r.items ≡ names_at names.now (numbers_at nodes.now order.now)) }
+{
+    let numbers = witness_numbers(alloc, nodes)?;
+    let mut gathered = Vec::new(alloc);
+    for node in order {
+        if let ListNode::Witness = nodes.get(*node) {
+            gathered.push(names[numbers[*node]])?;
+        }
+    }
+    Ok(gathered)
+}
+
+/// For each node how many witness nodes stand before it.
+fn witness_numbers(alloc: Global, nodes: &NodeList) -> Result<Vec<usize>, AllocError>
+    ensures { IfOk result (λ r. r.items ≡ map (witness_number nodes.now) (range_with_len 0 (length nodes.now))) }
+{
+    let mut numbers = Vec::new(alloc);
+    let mut count = 0;
+    for index in 0..nodes.len() {
+        numbers.push(count)?;
+        if let ListNode::Witness = nodes.get(index) {
+            count += 1;
+        }
+    }
+    Ok(numbers)
+}
