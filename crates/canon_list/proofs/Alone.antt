@@ -24,15 +24,15 @@ side_leaf ns zero h b e = refl
 side_leaf ns (suc d) h b e = ap (λ (o : Option Node). own_leaf o h ++ each_in (leaf_nodes ns d) (children_of o)) e
 
 module _ (place : ℕ → ℕ) where
-  one : (xs : List ℕ) (as : List ℕ) → xs ≡ map place as → xs ++ [] ≡ map place (as ++ [])
-  one xs as e = ap (λ (l : List ℕ). l ++ []) e ∙ sym (map-append place as [])
+  one : (xs : List ℕ) (cs : List ℕ) → xs ≡ map place cs → xs ++ [] ≡ map place (cs ++ [])
+  one xs cs e = ap (λ (l : List ℕ). l ++ []) e ∙ sym (map-append place cs [])
 
-  two : (xs ys : List ℕ) (as bs : List ℕ) → xs ≡ map place as → ys ≡ map place bs → xs ++ (ys ++ []) ≡ map place (as ++ (bs ++ []))
-  two xs ys as bs e g =
-      ap (λ (l : List ℕ). l ++ (ys ++ [])) e ∙ ap (λ (l : List ℕ). map place as ++ l) (one ys bs g) ∙ sym (map-append place as (bs ++ []))
+  two : (xs ys : List ℕ) (cs bs : List ℕ) → xs ≡ map place cs → ys ≡ map place bs → xs ++ (ys ++ []) ≡ map place (cs ++ (bs ++ []))
+  two xs ys cs bs e g =
+      ap (λ (l : List ℕ). l ++ (ys ++ [])) e ∙ ap (λ (l : List ℕ). map place cs ++ l) (one ys bs g) ∙ sym (map-append place cs (bs ++ []))
 
-  left_none : (xs ys : List ℕ) (as : List ℕ) → xs ≡ map place as → ys ≡ [] → xs ++ (ys ++ []) ≡ map place (as ++ [])
-  left_none xs ys as e g = ap (λ (l : List ℕ). xs ++ (l ++ [])) g ∙ one xs as e
+  left_none : (xs ys : List ℕ) (cs : List ℕ) → xs ≡ map place cs → ys ≡ [] → xs ++ (ys ++ []) ≡ map place (cs ++ [])
+  left_none xs ys cs e g = ap (λ (l : List ℕ). xs ++ (l ++ [])) g ∙ one xs cs e
 
   right_none : (xs ys : List ℕ) (bs : List ℕ) → xs ≡ [] → ys ≡ map place bs → xs ++ (ys ++ []) ≡ map place (bs ++ [])
   right_none xs ys bs e g = ap (λ (l : List ℕ). l ++ (ys ++ [])) e ∙ one ys bs g

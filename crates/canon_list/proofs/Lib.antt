@@ -2,5 +2,6 @@ mod Counting
 mod Typed
 mod Alone
 mod Trees
-mod Subterms
-mod Canonical
+mod Rows
+mod Canons
+mod Gathers

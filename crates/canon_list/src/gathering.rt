@@ -1,10 +1,12 @@
 //! The arrows and the names of the nodes that a list's root reaches.
 
-ghost use Rattle.std.specs.Prelude.{◌≡◌, ◌≤◌, length, map, IfOk};
+ghost use Rattle.std.specs.Prelude.{◌≡◌, ◌≤◌, length, map, true, false, IfOk};
 ghost use Rattle.std.specs.List.{range_with_len};
 ghost use Rattle.simplicity.specs.Canon.{names_at};
 ghost use Rattle.simplicity.specs.Nodes.{AreUnder, witness_number};
+ghost use Rattle.simplicity.specs.Nodes as spec;
 ghost use Rattle.simplicity.specs.Pruning.{numbers_at};
+ghost use Rattle.term_core.specs.Nodes.{node_of};
 ghost use Rattle.canon_list.specs.Canons.{arrows_at};
 
 use infer_cells::Typing;
@@ -41,7 +43,7 @@ pub(crate) fn gather_names(
     let numbers = witness_numbers(alloc, nodes)?;
     let mut gathered = Vec::new(alloc);
     for node in order {
-        if let ListNode::Witness = nodes.get(*node) {
+        if is_witness(nodes.get(*node)) {
             gathered.push(names[numbers[*node]])?;
         }
     }
@@ -56,9 +58,17 @@ fn witness_numbers(alloc: Global, nodes: &NodeList) -> Result<Vec<usize>, AllocE
     let mut count = 0;
     for index in 0..nodes.len() {
         numbers.push(count)?;
-        if let ListNode::Witness = nodes.get(index) {
+        if is_witness(nodes.get(index)) {
             count += 1;
         }
     }
     Ok(numbers)
+}
+
+/// Whether a node is a witness.
+fn is_witness(node: &ListNode) -> bool
+    ensures yes { result ≡ true → node_of node.now ≡ spec.Witness }
+    ensures no { result ≡ false → node_of node.now ≡ spec.Witness → ⊥ }
+{
+    matches!(node, ListNode::Witness)
 }

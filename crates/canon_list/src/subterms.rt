@@ -14,7 +14,7 @@ use type_table::TypeTable;
 
 /// A list of the different subterms of a term, and the numbers that its witness nodes have in the table.
 #[derive(Drop)]
-pub(crate) struct Subterms {
+pub(crate) struct NamedNodes {
     pub nodes: NodeList,
     pub names: Vec<usize>,
 }
@@ -25,7 +25,7 @@ pub(crate) fn subterms(
     table: &TermTable,
     root: NodeId,
     types: &TypeTable,
-) -> Result<Subterms, AllocError>
+) -> Result<NamedNodes, AllocError>
     requires there { root < length table.now }
     requires stands { StandsOver types.now table.now }
     requires alone { WitnessesAreAlone table.now root }
@@ -42,7 +42,7 @@ pub(crate) fn subterms(
         order.as_slice(),
     )?;
     let merged = merge(alloc, &nodes, &arrows, types)?;
-    Ok(Subterms {
+    Ok(NamedNodes {
         nodes: merged.nodes,
         names,
     })

@@ -20,7 +20,6 @@ use Rattle.sharing.proofs.Orderly.{position}
 use Rattle.infer_cells.specs.declared.typing.NodeArrow.{NodeArrow}
 use Rattle.infer_cells.specs.Typings.{arrow_in, typing_in, IsBelowBound, AreBelowBound}
 use Rattle.share_order.specs.Merged.{IsMergedInOrder}
-use Rattle.share_order.proofs.Told.{bound_of}
 use Rattle.term_core.specs.declared.table_node.TermRow.{TermRow}
 use Rattle.term_core.specs.Terms.{term_at, StandsOver}
 use Rattle.row_lists.specs.Rows.{IsRowList}

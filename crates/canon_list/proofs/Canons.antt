@@ -7,7 +7,7 @@ use Rattle.simplicity.specs.Order.{IsOrdered}
 use Rattle.simplicity.specs.Typing.{Typing, Arrow}
 use Rattle.simplicity.specs.Arrows.{declared_arrow}
 use Rattle.simplicity.specs.Pruning.{gathered, gathered_numbers, IsReordered}
-use Rattle.simplicity.specs.Canon.{Declared, erased, IsCanon}
+use Rattle.simplicity.specs.Canon.{Declared, erased, names_at, IsCanon}
 use Rattle.simplicity.specs.Types.{Kind}
 use Rattle.sharing.specs.Laws.{renumbered}
 use Rattle.sharing.proofs.Merging.{within_of, there_at}
@@ -26,7 +26,8 @@ use Rattle.row_lists.proofs.Meaning.{types_there}
 use Rattle.share_order.specs.Refusals.{HasTyping, RefusesReordered}
 use Rattle.share_order.specs.declared.refusal.CanonRefusal.{CanonRefusal}
 use Rattle.share_order.specs.declared.refusal.CanonRefusal.TheVariants as canon
-use Rattle.share_order.proofs.Reorders.{gathered_root}
+use Rattle.sharing.specs.Laws.{entries_at}
+use Rattle.sharing.proofs.Standing.{gathering_stands}
 use Rattle.canon_list.specs.Canons.{name_at, AreSubterms, RefusesCanon}
 use Rattle.canon_list.proofs.Counting.{merged_count, numbers_long, ordered_numbers, ordered_names, ordered_number}
 use Rattle.canon_list.proofs.Trees.{stands_shown, named_tree, tree_same, renumbered_twice}
@@ -79,12 +80,13 @@ module _ (t : Declared) (list : List Node) (names : List ℕ) (are : AreSubterms
     root_shown =
         let placed = are.lists.placed in
         let full = subterms_root.1 in
-        let g_root = gathered_root list placed full subterms_root in
-        let n = there_at (gathered list) (length (gathered list) - 1) (let some = g_root.1 in omega (arith, some)) in
+        let g_stands = gathering_stands list are.declared names t placed full are.lists.whole in
+        let g_shown = stands_shown (gathered list) (entries_at are.declared (post_order list)) (names_at names (gathered_numbers list)) (length (gathered list) - 1) t g_stands in
+        let n = there_at (gathered list) (length (gathered list) - 1) (omega (arith, gathered_full list placed full)) in
         let goes : slice_get ms (length ms - 1) ≡ Some (Rattle.simplicity.specs.Pruning.renamed re.place n.0) =
         ap (slice_get ms) (sym re.merged.root) ∙ re.merged.nodes (length (gathered list) - 1) n.0 n.1 in
         let inside = within_of ms (length ms - 1) (Rattle.simplicity.specs.Pruning.renamed re.place n.0) goes in
-        (subst IsShown (sym goes) (shown_renamed re.place n.0 (subst IsShown n.1 g_root.0)), omega (arith, inside))
+        (subst IsShown (sym goes) (shown_renamed re.place n.0 (subst IsShown n.1 g_shown)), omega (arith, inside))
 
     pub canon_tree : erased t ≡ renumbered (name_at names) (tree_of ms)
     canon_tree =
