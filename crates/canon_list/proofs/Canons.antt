@@ -39,6 +39,11 @@ arrow_is kinds rows id row stands at =
     let means = means_there kinds rows id row stands at in
     sym (ap declared_arrow means.is ∙ own_arrow row.node (terms kinds rows) (arrow_between kinds row.source row.target))
 
+pub arrow_at : (kinds : List Kind) (rows : List TermRow) (id : ℕ) (row : TermRow) → StandsOver kinds rows → slice_get rows id ≡ Some row → (a b : ℕ) → row.source ≡ a → row.target ≡ b →
+    arrow_between kinds a b ≡ declared_arrow (term_at kinds rows id)
+arrow_at kinds rows id row stands at a b source target =
+    ap (λ (x : ℕ). arrow_between kinds x b) (sym source) ∙ ap (arrow_between kinds row.source) (sym target) ∙ arrow_is kinds rows id row stands at
+
 module _ (t : Declared) (list : List Node) (names : List ℕ) (are : AreSubterms t list names) where
   pub subterms_root : HasRoot list
   subterms_root =

@@ -59,10 +59,10 @@ count_plain ns k count n c is plain =
     let next : k + 1 ≡ suc k = omega arith in
     c ∙ sym (plain_count n (witness_number ns k) plain) ∙ sym (number_next ns k n is) ∙ ap (witness_number ns) (sym next)
 
-pub number_at : (ns : List Node) (numbers : List ℕ) (i : ℕ) → numbers ≡ map (witness_number ns) (range_with_len 0 (length ns)) → i < length ns → get_or numbers i 0 ≡ witness_number ns i
-number_at ns numbers i e l =
+pub number_at : (ns : List Node) (numbers : List ℕ) (i d : ℕ) → numbers ≡ map (witness_number ns) (range_with_len 0 (length ns)) → i < length ns → get_or numbers i d ≡ witness_number ns i
+number_at ns numbers i d e l =
     let zero_more : 0 + i ≡ i = omega arith in
-    get_or_from_slice_get numbers i (witness_number ns i) 0
+    get_or_from_slice_get numbers i (witness_number ns i) d
     (ap (λ (l : List ℕ). slice_get l i) e ∙ slice_get-map (witness_number ns) (range_with_len 0 (length ns)) i ∙ ap (option_map (witness_number ns)) (range_get 0 (length ns) i l) ∙ ap (λ (x : ℕ). Some (witness_number ns x)) zero_more)
 
 pub numbers_many : (ns : List Node) (numbers : List ℕ) → numbers ≡ map (witness_number ns) (range_with_len 0 (length ns)) → length numbers ≡ length ns

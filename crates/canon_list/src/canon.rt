@@ -58,7 +58,10 @@ pub fn canonical(
 {
     let (source, target) = table.arrow(root);
     let subterms = subterms(alloc, table, root, types)?;
-    let reordered = reorder(alloc, &subterms.nodes, source, target, types)?;
+    let reordered = match reorder(alloc, &subterms.nodes, source, target, types) {
+        Ok(reordered) => reordered,
+        Err(refusal) => return Err(refusal),
+    };
     Ok(Canon {
         nodes: reordered.nodes,
         typing: reordered.typing,

@@ -1,7 +1,7 @@
 //! The arrows and the names of the nodes that a list's root reaches.
 
-ghost use Rattle.std.specs.Prelude.{◌≡◌, ◌≤◌, length, map, true, false, IfOk};
-ghost use Rattle.std.specs.List.{range_with_len};
+ghost use Rattle.std.specs.Prelude.{◌≡◌, ◌<◌, ◌≤◌, length, map, true, false, IfOk};
+ghost use Rattle.std.specs.List.{range_with_len, slice_index_or};
 ghost use Rattle.simplicity.specs.Canon.{names_at};
 ghost use Rattle.simplicity.specs.Nodes.{AreUnder, witness_number};
 ghost use Rattle.simplicity.specs.Nodes as spec;
@@ -44,10 +44,18 @@ pub(crate) fn gather_names(
     let mut gathered = Vec::new(alloc);
     for node in order {
         if is_witness(nodes.get(*node)) {
-            gathered.push(names[numbers[*node]])?;
+            gathered.push(name(names, numbers[*node]))?;
         }
     }
     Ok(gathered)
+}
+
+/// The name of a number.
+fn name(names: &[usize], number: usize) -> usize
+    requires { number < length names.now }
+    ensures { result ≡ slice_index_or names.now number 0 }
+{
+    names[number]
 }
 
 /// For each node how many witness nodes stand before it.
