@@ -1,4 +1,4 @@
-mod Meaning
-mod Steps
-mod Typed
-mod Listing
+pub mod Meaning
+pub mod Steps
+pub mod Typed
+pub mod Listing

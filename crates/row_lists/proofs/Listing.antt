@@ -31,6 +31,7 @@ pub record Listing (kinds : List Kind) (rows : List TermRow) (id : ℕ) (ns : Li
   pub below : AreBelowBound (length kinds) arrows
   pub each : AreListed rows id ns arrows names (place_at places)
   pub typed : IsTyping ns (typing_in kinds arrows)
+  pub grows : (i j : ℕ) → i < j → j < id → place_at places i < place_at places j
   pub last : (i : ℕ) → suc i ≡ id → (place_at places i ≡ length ns - 1) × (0 < length ns)
 
 pub listing_none : (kinds : List Kind) (rows : List TermRow) → Listing kinds rows 0 [] [] [] []
@@ -41,6 +42,7 @@ listing_none kinds rows = record {
   below = tt;
   each = λ id row h at. absurd (omega (arith, h));
   typed = tt;
+  grows = λ i j l h. absurd (omega (arith, h));
   last = λ i e. absurd (omega (arith, e));
 }
 
@@ -134,6 +136,19 @@ module _ (kinds : List Kind) (rows : List TermRow) (stands : StandsOver kinds ro
         (subst (λ (j : ℕ). RowAt (ns1 ++ own ∷ []) (arrows1 ++ ids ∷ []) (names ++ own_names n) (place_at places1) j row) here new_row)
   ]
 
+  grown_in : (i j : ℕ) → i < j → j < suc id → place_at places1 i < place_at places1 j
+  grown_in i j l h = elim (cases_lt j id) [
+    | inl p ↦ subst (λ (x : ℕ). x < place_at places1 j) (places_same i (omega (arith, l, p))) (subst (λ (x : ℕ). place_at places i < x) (places_same j p) (old.grows i j l p))
+    | inr p ↦
+        let here : j ≡ id = omega (arith, p, h) in
+        let r = there_at rows i (let inside = slice_get_within rows id row at in omega (arith, l, here, inside)) in
+        let is = old.each i r.0 (omega (arith, l, here)) r.1 in
+        let below = slice_get_within ns (place_at places i) (listed (place_at places) is.hidden r.0.node) is.node in
+        let first = places_same i (omega (arith, l, here)) in
+        let last = ap (place_at places1) here ∙ new_place in
+        omega (arith, below, first, last, length-append ns (hidden_nodes n))
+  ]
+
   new_named : length (names ++ own_names n) ≡ witness_number (ns1 ++ own ∷ []) (length (ns1 ++ own ∷ []))
   new_named =
       let all : length (names ++ own_names n) ≡ length names + length (own_names n) = length-append names (own_names n) in
@@ -192,6 +207,7 @@ module _ (kinds : List Kind) (rows : List TermRow) (stands : StandsOver kinds ro
     below = both_below (length kinds) arrows1 (ids ∷ []) (both_below (length kinds) arrows (hidden_arrows n) old.below (hidden_below n (length kinds))) (types_there kinds rows id row stands at, tt);
     each = row_in;
     typed = new_typed;
+    grows = grown_in;
     last = λ i e.
         let here : i ≡ id = omega (arith, e) in
         let long = length-append ns1 (own ∷ []) in
@@ -212,6 +228,7 @@ listing_whole kinds rows root id ns arrows names places stands there all placed 
     record {
       place = place_at places;
       each = each;
+      grows = subst (λ (k : ℕ). (i j : ℕ) → i < j → j < k → place_at places i < place_at places j) all listing.grows;
       last = last.0;
       full = last.1;
       placed = placed;

@@ -75,10 +75,11 @@ pub record RowAt (ns : List Node) (arrows : List (Option NodeArrow)) (names : Li
 abbrev pub AreListed : List TermRow → ℕ → List Node → List (Option NodeArrow) → List ℕ → (ℕ → ℕ) → Type 0
 AreListed rows count ns arrows names place = (id : ℕ) (row : TermRow) → id < count → slice_get rows id ≡ Some row → RowAt ns arrows names place id row
 
--- the rows up to one stand in the list, which ends with that row's node; so this stands for the row's term, and the rows' arrows are a typing
+-- the rows up to one stand in the list in their order, which ends with that row's node; so this stands for the row's term, and the rows' arrows are a typing
 pub record IsRowList (kinds : List Kind) (rows : List TermRow) (root : ℕ) (ns : List Node) (arrows : List (Option NodeArrow)) (names : List ℕ) : Type 0 where
   pub place : ℕ → ℕ
   pub each : AreListed rows (root + 1) ns arrows names place
+  pub grows : (i j : ℕ) → i < j → j < root + 1 → place i < place j
   pub last : place root ≡ length ns - 1
   pub full : 0 < length ns
   pub placed : IsPlaced ns

@@ -2,9 +2,9 @@
 #![tactic(auto)]
 
 mod classes;
-mod gather;
+mod gathering;
 mod least_places;
-mod merge;
+mod merging;
 mod order;
 mod places;
 mod refusal;
@@ -14,8 +14,11 @@ mod shared;
 mod tell;
 mod walk;
 
+pub use gathering::gather;
+pub use merging::{Merged, merge};
 pub use order::check_order;
 pub use places::Places;
 pub use refusal::{CanonRefusal, OrderRefusal};
 pub use reordering::{Reordered, reorder};
 pub use shared::check_shared;
+pub use walk::post_order;

@@ -11,9 +11,9 @@ ghost use Rattle.infer_cells.specs.Constrained.{arrow_between};
 ghost use Rattle.infer_cells.specs.Typings.{typing_in, AreBelowBound, LeastIsHeavy};
 ghost use Rattle.share_order.specs.Refusals.{HasTyping, OnTooLarge, RefusesReordered};
 
-use crate::gather::gather;
+use crate::gathering::gather;
 use crate::least_places::least_places;
-use crate::merge::merge;
+use crate::merging::merge;
 use crate::places::Places;
 use crate::refusal::CanonRefusal;
 use crate::walk::post_order;

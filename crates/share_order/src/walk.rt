@@ -19,7 +19,7 @@ pub(crate) enum Step {
 }
 
 /// The nodes that the root reaches, in left-first post-order. The walk keeps a list of what is left to do.
-pub(crate) fn post_order(alloc: Global, nodes: &NodeList) -> Result<Vec<usize>, AllocError>
+pub fn post_order(alloc: Global, nodes: &NodeList) -> Result<Vec<usize>, AllocError>
     requires { 0 < length nodes.now }
     ensures { IfOk result (λ order. order.items ≡ post_order nodes.now) }
 {

@@ -2,7 +2,7 @@ use Rattle.std.proofs.Common.{sym, ◌∙◌}
 use Rattle.share_order.specs.Keys.{keys_of, arrows_in}
 use Rattle.share_order.proofs.Gathers.{taken_next}
 use Rattle.share_order.proofs.Emitted.{arrow_at}
-use Rattle.share_order.proofs.merge.class_typing.Goals as goal
+use Rattle.share_order.proofs.merging.class_typing.Goals as goal
 
 pub loop-index-preserved : goal.loop-index-preserved
 loop-index-preserved c =

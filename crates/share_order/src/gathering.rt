@@ -8,8 +8,8 @@ use crate::rename::renamed;
 use std::alloc::{AllocError, Global};
 use term_core::NodeList;
 
-/// The nodes that the root reaches, in their order.
-pub(crate) fn gather(
+/// The nodes that the root reaches, in their order, which is the left-first post-order.
+pub fn gather(
     alloc: Global,
     nodes: &NodeList,
     order: &[usize],

@@ -2,7 +2,7 @@ use Rattle.std.proofs.Common.{◌≡◌, length, take}
 use Rattle.simplicity.specs.Order.{post_order}
 use Rattle.simplicity.specs.Pruning.{gathered}
 use Rattle.share_order.proofs.Gathers.{Placing}
-use Rattle.share_order.proofs.gather.gather.Given as goal
+use Rattle.share_order.proofs.gathering.gather.Given as goal
 
 abbrev pub invariant-loop-index : goal.invariant-loop-index
 invariant-loop-index l = record {

@@ -8,7 +8,7 @@ use Rattle.simplicity.specs.Nodes.{children, AreUnder}
 use Rattle.term_core.specs.Nodes.{node_of}
 use Rattle.share_order.specs.Keys.{place_at}
 use Rattle.share_order.proofs.Gathers.{gather_follows, gather_step, all_gathered, node_within, children_within, place_next}
-use Rattle.share_order.proofs.gather.gather.Goals as goal
+use Rattle.share_order.proofs.gathering.gather.Goals as goal
 
 -- the index that the order has at a place
 ordered_at : (order post : List ℕ) (k : ℕ) → order ≡ post → k < length order → slice_get post k ≡ Some (get_or order k 0)

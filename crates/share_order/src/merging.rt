@@ -17,14 +17,15 @@ use type_table::TypeTable;
 
 /// A list in which equal nodes of another are one, and where each node of that went.
 #[derive(Drop)]
-pub(crate) struct Merged {
+pub struct Merged {
     pub nodes: NodeList,
     pub typing: Typing,
     pub places: Vec<usize>,
 }
 
 /// Merges the nodes of an ordered list that are equal in kind, children and arrow and are no witnesses.
-pub(crate) fn merge(
+/// The arrows are of the types of the table, with none for a hidden node.
+pub fn merge(
     alloc: Global,
     nodes: &NodeList,
     typing: &Typing,

@@ -5,7 +5,7 @@ use Rattle.infer_cells.specs.declared.typing.NodeArrow.{NodeArrow}
 use Rattle.share_order.specs.Keys.{place_at, keys_of, nodes_in, arrows_in}
 use Rattle.share_order.specs.Merged.{IsMergedInOrder}
 use Rattle.share_order.proofs.Meant.{classes_in_order, arrows_bound}
-use Rattle.share_order.proofs.merge.merge.Goals as goal
+use Rattle.share_order.proofs.merging.merge.Goals as goal
 
 pub returns-clause-merged : goal.returns-clause-merged
 returns-clause-merged c =

@@ -3,7 +3,7 @@ use Rattle.term_core.specs.Nodes.{node_of}
 use Rattle.share_order.specs.Keys.{keys_of, nodes_in}
 use Rattle.share_order.proofs.Gathers.{taken_next}
 use Rattle.share_order.proofs.Emitted.{node_at, class_follows}
-use Rattle.share_order.proofs.merge.class_nodes.Goals as goal
+use Rattle.share_order.proofs.merging.class_nodes.Goals as goal
 
 pub push-requires : goal.push-requires
 push-requires c = class_follows c.args.keys.now.keys c.loop-index.nodes c.loop-index.index c.in-Some.key.now c.requires c.loop-index.invariant (sym c.in-Some.ensures.key)

@@ -1,0 +1,7 @@
+mod Counting
+mod Typed
+mod Alone
+mod Trees
+mod Rows
+mod Canons
+mod Gathers
