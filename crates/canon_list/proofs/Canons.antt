@@ -1,9 +1,8 @@
 -- A term's different subterms, reordered, are its canonical list.
-use Rattle.std.proofs.Common.{◌≡◌, refl, ap, sym, subst, ◌∙◌, ℕ, ◌-◌, ◌<◌, List, length, Option, Some, arith}
+use Rattle.std.proofs.Common.{◌≡◌, ap, sym, subst, ◌∙◌, ℕ, ◌-◌, ◌<◌, List, length, Some, arith}
 use Rattle.std.specs.Prelude.{slice_get}
 use Rattle.std.specs.List.{slice_index_or}
 use Rattle.simplicity.specs.Nodes.{Node, IsShown, HasRoot, witness_number, tree_of}
-use Rattle.simplicity.specs.Order.{IsOrdered}
 use Rattle.simplicity.specs.Typing.{Typing, Arrow}
 use Rattle.simplicity.specs.Arrows.{declared_arrow}
 use Rattle.simplicity.specs.Pruning.{gathered, gathered_numbers, IsReordered}
@@ -16,13 +15,11 @@ use Rattle.sharing.proofs.Gathering.{gathered_placed, gathered_ordered, gathered
 use Rattle.sharing.proofs.Orderly.{position, range_length}
 use Rattle.sharing.proofs.Unfolded.{reordering_renumbers}
 use Rattle.simplicity.specs.Order.{post_order}
-use Rattle.type_table.specs.Kinds.{kind_at}
 use Rattle.term_core.specs.declared.table_node.TermRow.{TermRow}
 use Rattle.term_core.specs.Terms.{terms, term_at, StandsOver}
 use Rattle.term_core.proofs.Growth.{means_there}
 use Rattle.infer_cells.specs.Constrained.{arrow_between}
 use Rattle.row_lists.proofs.Typed.{own_arrow}
-use Rattle.row_lists.proofs.Meaning.{types_there}
 use Rattle.share_order.specs.Refusals.{HasTyping, RefusesReordered}
 use Rattle.share_order.specs.declared.refusal.CanonRefusal.{CanonRefusal}
 use Rattle.share_order.specs.declared.refusal.CanonRefusal.TheVariants as canon

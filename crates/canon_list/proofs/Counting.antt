@@ -1,5 +1,5 @@
 -- How many witness nodes a list has, and which numbers an ordered list gives them.
-use Rattle.std.proofs.Common.{◌≡◌, refl, ap, sym, subst, ◌∙◌, ℕ, zero, suc, ◌+◌, ◌-◌, ◌<◌, ◌≤◌, List, [], ◌∷◌, length, map, Option, Some, arith}
+use Rattle.std.proofs.Common.{◌≡◌, refl, ap, sym, ◌∙◌, ℕ, zero, suc, ◌+◌, ◌-◌, ◌<◌, ◌≤◌, List, [], ◌∷◌, length, Option, Some, arith}
 use Rattle.std.specs.Prelude.{slice_get}
 use Rattle.std.specs.List.{range_with_len, slice_index_or}
 use Rattle.std.specs.Option.{unwrap_or, option_map}
@@ -7,7 +7,7 @@ use Rattle.std.proofs.lemmas.List.{length-map}
 use Rattle.std.proofs.lemmas.Option.{slice_get-map, get_or_from_slice_get}
 use Rattle.simplicity.specs.Nodes as node
 use Rattle.simplicity.specs.Nodes.{Node, count_after, witness_number}
-use Rattle.simplicity.specs.Order.{post_order, IsOrdered}
+use Rattle.simplicity.specs.Order.{IsOrdered}
 use Rattle.simplicity.specs.Typing.{Typing}
 use Rattle.simplicity.specs.Pruning.{renamed, picked, numbers_next, numbers_at, gathered_numbers, IsMerged}
 use Rattle.simplicity.specs.Canon.{names_at}

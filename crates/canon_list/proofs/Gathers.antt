@@ -8,7 +8,6 @@ use Rattle.simplicity.specs.Nodes as node
 use Rattle.simplicity.specs.Nodes.{Node, AreUnder, count_after, witness_number}
 use Rattle.simplicity.specs.Pruning.{numbers_next, numbers_at}
 use Rattle.simplicity.specs.Canon.{names_at}
-use Rattle.sharing.proofs.Merging.{within_of}
 use Rattle.sharing.proofs.Orderly.{range_last, range_get, range_length}
 use Rattle.sharing.proofs.Unfolded.{number_next}
 use Rattle.infer_cells.specs.declared.typing.NodeArrow.{NodeArrow}

@@ -1,17 +1,16 @@
 -- The list of rows, gathered and merged by declared arrows, has the term's different subterms.
-use Rattle.std.proofs.Common.{◌≡◌, refl, ap, sym, subst, ◌∙◌, ℕ, zero, suc, ◌+◌, ◌-◌, ◌<◌, List, [], ◌∷◌, length, map, Option, Some, None, arith}
+use Rattle.std.proofs.Common.{◌≡◌, refl, ap, sym, subst, ◌∙◌, ℕ, zero, suc, ◌<◌, List, [], ◌∷◌, length, Option, Some, None, arith}
 use Rattle.std.specs.Prelude.{slice_get}
 use Rattle.std.specs.List.{slice_index_or}
 use Rattle.std.proofs.lemmas.List.{length-map}
 use Rattle.simplicity.specs.Types.{Kind}
-use Rattle.simplicity.specs.Nodes.{Node, AreUnder, IsPlaced, witness_number}
-use Rattle.simplicity.specs.Order.{has, post_order, IsOrdered, IsReached}
+use Rattle.simplicity.specs.Nodes.{Node, AreUnder}
+use Rattle.simplicity.specs.Order.{has, post_order, IsOrdered}
 use Rattle.simplicity.specs.Typing.{Typing, Arrow}
 use Rattle.simplicity.specs.Arrows.{declared_arrow}
 use Rattle.simplicity.specs.Pruning.{gathered, gathered_numbers, numbers_at}
-use Rattle.simplicity.specs.Canon.{Declared, names_at}
+use Rattle.simplicity.specs.Canon.{names_at}
 use Rattle.sharing.specs.Laws.{entries_at}
-use Rattle.sharing.proofs.Merging.{within_of}
 use Rattle.sharing.proofs.Merged.{merged_ordered, merged_onto, has_range}
 use Rattle.sharing.proofs.Gathering.{post_picked, picked_within, gathered_placed, gathered_ordered, gathered_full, gathered_length}
 use Rattle.sharing.proofs.Standing.{gathering_stands, merging_stands}

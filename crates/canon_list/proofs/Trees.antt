@@ -1,7 +1,6 @@
 -- The tree of a canonical list, with its witnesses named.
-use Rattle.std.proofs.Common.{◌≡◌, refl, ap, sym, subst, ◌∙◌, ℕ, ◌+◌, ◌-◌, ◌<◌, List, length, Option, Some, arith}
+use Rattle.std.proofs.Common.{◌≡◌, refl, ap, sym, subst, ◌∙◌, ℕ, ◌-◌, ◌<◌, List, length}
 use Rattle.std.specs.Prelude.{slice_get}
-use Rattle.std.specs.List.{slice_index_or}
 use Rattle.std.proofs.lemmas.Option.{get_or_from_slice_get}
 use Rattle.simplicity.specs.Terms as term
 use Rattle.simplicity.specs.Terms.{Term}

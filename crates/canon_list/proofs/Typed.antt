@@ -1,5 +1,5 @@
 -- Typings go along maps of lists that rename nodes and keep their arrows.
-use Rattle.std.proofs.Common.{◌≡◌, refl, ap, sym, subst, ◌∙◌, ℕ, ◌-◌, ◌<◌, true, List, length, map, Option, Some, None, arith}
+use Rattle.std.proofs.Common.{◌≡◌, ap, sym, subst, ◌∙◌, ℕ, ◌-◌, ◌<◌, true, List, length, Option, Some, None, arith}
 use Rattle.std.specs.Prelude.{slice_get}
 use Rattle.std.specs.List.{slice_index_or}
 use Rattle.std.specs.Option.{option_map}
@@ -12,7 +12,7 @@ use Rattle.simplicity.specs.Order.{has, post_order}
 use Rattle.simplicity.specs.Typing as row
 use Rattle.simplicity.specs.Typing.{Typing, Arrow, Meets, EntryMeets, IsTyping, IsTypingAt}
 use Rattle.simplicity.specs.Pruning.{renamed, gathered, IsMerged}
-use Rattle.simplicity.proofs.Typings.{typing_length, entry_at, some_entry}
+use Rattle.simplicity.proofs.Typings.{entry_at, some_entry}
 use Rattle.sharing.specs.Laws.{entries_at, IsOnto}
 use Rattle.sharing.proofs.Closed.{AllOf}
 use Rattle.sharing.proofs.Merging.{within_of, there_at, meets_by}

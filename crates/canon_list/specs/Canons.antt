@@ -21,7 +21,8 @@ arrows_at arrows is = map (λ i. slice_index_or arrows i None) is
 abbrev pub name_at : List ℕ → ℕ → ℕ
 name_at names k = slice_index_or names k 0
 
--- the different subterms of a term in left-first post-order, with a name for each witness node; their declared arrows are a typing
+-- the different subterms of a term in left-first post-order, with a name for each witness node; their declared arrows
+-- are a typing
 pub record AreSubterms (t : Declared) (ns : List Node) (names : List ℕ) : Type 0 where
   pub declared : Typing
   pub lists : ListsSubterms t ns declared names

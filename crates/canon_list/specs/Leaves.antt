@@ -15,8 +15,8 @@ abbrev pub leaves_by : (ℕ → List ℕ) → ℕ → Option TermRow → List �
 leaves_by f id None = []
 leaves_by f id (Some row) = own_row row.node id ++ each_in f (child_ids row.node)
 
--- the rows of witnesses at the leaves of a row's term, left first, with each as often as it stands there; since children
--- stand before their parents no path is longer than a row's id with one more
+-- the rows of witnesses at the leaves of a row's term, left first, with each as often as it stands there; since
+-- children stand before their parents no path is longer than a row's id with one more
 abbrev pub leaf_rows : List TermRow → ℕ → ℕ → List ℕ
 leaf_rows rows zero id = []
 leaf_rows rows (suc depth) id = leaves_by (leaf_rows rows depth) id (slice_get rows id)

@@ -35,12 +35,7 @@ pub(crate) fn subterms(
     let order = post_order(alloc, &rows.nodes)?;
     let nodes = gather(alloc, &rows.nodes, order.as_slice())?;
     let arrows = gather_arrows(alloc, &rows.arrows, order.as_slice())?;
-    let names = gather_names(
-        alloc,
-        &rows.nodes,
-        rows.names.as_slice(),
-        order.as_slice(),
-    )?;
+    let names = gather_names(alloc, &rows.nodes, rows.names.as_slice(), order.as_slice())?;
     let merged = merge(alloc, &nodes, &arrows, types)?;
     Ok(NamedNodes {
         nodes: merged.nodes,

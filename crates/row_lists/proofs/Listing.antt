@@ -1,12 +1,12 @@
 -- The list of the first rows of a table, and of one row more.
-use Rattle.std.proofs.Common.{◌≡◌, ℕ, suc, ◌+◌, ◌-◌, ◌<◌, ◌≤◌, inl, inr, List, [], ◌∷◌, ◌++◌, length, refl, sym, ap, ◌∙◌, subst, arith, Option, Some, None, slice_get, append_assoc, length-append}
+use Rattle.std.proofs.Common.{◌≡◌, ℕ, suc, ◌+◌, ◌-◌, ◌<◌, ◌≤◌, inl, inr, List, [], ◌∷◌, ◌++◌, length, refl, sym, ap, ◌∙◌, subst, arith, Option, Some, slice_get, append_assoc, length-append}
 use Rattle.std.proofs.lemmas.Bool.{cases_lt}
 use Rattle.std.proofs.lemmas.List.{map-append}
 use Rattle.std.proofs.lemmas.Option.{slice_get_within}
 use Rattle.simplicity.specs.Types.{Kind}
-use Rattle.simplicity.specs.Nodes.{Node, AreUnder, IsShown, CanFollow, IsPlaced, witness_number}
+use Rattle.simplicity.specs.Nodes.{Node, IsShown, CanFollow, IsPlaced, witness_number}
 use Rattle.simplicity.specs.Typing.{Arrow, arrow, Typing, Meets, IsTyping}
-use Rattle.simplicity.specs.Canon.{Declared, Stands}
+use Rattle.simplicity.specs.Canon.{Stands}
 use Rattle.simplicity.specs.Arrows.{declared_arrow, IsTypedTerm}
 use Rattle.simplicity.proofs.Unfold.{get_last}
 use Rattle.sharing.proofs.Merging.{there_at}
@@ -15,7 +15,7 @@ use Rattle.infer_cells.specs.Typings.{arrow_in, typing_in, AreBelowBound}
 use Rattle.term_core.specs.declared.table_node.Node.{Node as RowNode}
 use Rattle.term_core.specs.declared.table_node.Node.TheVariants as code
 use Rattle.term_core.specs.declared.table_node.TermRow.{TermRow}
-use Rattle.term_core.specs.Terms.{child_ids, term_of, node_term, terms, term_at, StandsOver}
+use Rattle.term_core.specs.Terms.{term_of, node_term, terms, term_at, StandsOver}
 use Rattle.term_core.specs.Laws.{TermsAreTyped}
 use Rattle.term_core.proofs.Growth.{means_there}
 use Rattle.type_table.specs.Kinds.{kind_at}

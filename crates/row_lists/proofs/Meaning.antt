@@ -1,8 +1,8 @@
 -- The node of a row stands for the row's term.
-use Rattle.std.proofs.Common.{◌≡◌, ℕ, zero, suc, ◌+◌, ◌<◌, ◌≤◌, List, [], ◌∷◌, ◌++◌, length, refl, sym, ap, ◌∙◌, subst, arith, Option, Some, None, slice_get, length-append}
+use Rattle.std.proofs.Common.{◌≡◌, ℕ, zero, suc, ◌+◌, ◌<◌, ◌≤◌, List, [], ◌∷◌, ◌++◌, length, sym, ap, ◌∙◌, subst, arith, Option, Some, None, slice_get, length-append}
 use Rattle.std.specs.Prelude.{replicate}
 use Rattle.std.specs.Option.{option_map}
-use Rattle.std.proofs.lemmas.Option.{slice_get-map, slice_get_within}
+use Rattle.std.proofs.lemmas.Option.{slice_get-map}
 use Rattle.simplicity.specs.Types.{Kind}
 use Rattle.simplicity.specs.Nodes.{Node, AreUnder}
 use Rattle.simplicity.specs.Typing.{Arrow, arrow}
@@ -16,9 +16,9 @@ use Rattle.infer_cells.specs.Typings.{arrow_in, typing_in}
 use Rattle.term_core.specs.declared.table_node.Node.{Node as RowNode}
 use Rattle.term_core.specs.declared.table_node.Node.TheVariants as code
 use Rattle.term_core.specs.declared.table_node.TermRow.{TermRow}
-use Rattle.term_core.specs.Terms.{child_ids, term_of, node_term, row_term, terms_after, terms, term_at, FollowFrom, StandsOver, MeansTerm}
+use Rattle.term_core.specs.Terms.{child_ids, term_of, node_term, row_term, terms, term_at, FollowFrom, StandsOver}
 use Rattle.term_core.proofs.Growth.{means_there}
-use Rattle.row_lists.specs.Rows.{listed, SideAt, NameAt, RowAt, AreListed}
+use Rattle.row_lists.specs.Rows.{listed, SideAt, NameAt, AreListed}
 
 -- children have lower ids than their parents
 under_at : (m n : ℕ) (is : List ℕ) → m ≡ n → AreUnder m is → AreUnder n is

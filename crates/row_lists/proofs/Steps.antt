@@ -1,6 +1,5 @@
 -- One more row in the list.
-use Rattle.std.proofs.Common.{◌≡◌, ℕ, zero, suc, ◌+◌, ◌-◌, ◌<◌, ◌≤◌, List, [], ◌∷◌, ◌++◌, length, refl, sym, ap, ◌∙◌, subst, arith, Option, Some, None, slice_get, length-append}
-use Rattle.std.specs.Prelude.{replicate}
+use Rattle.std.proofs.Common.{◌≡◌, ℕ, zero, suc, ◌+◌, ◌<◌, ◌≤◌, List, [], ◌∷◌, ◌++◌, length, refl, sym, ap, ◌∙◌, subst, arith, Option, Some, None, slice_get, length-append}
 use Rattle.std.proofs.lemmas.List.{append-nil}
 use Rattle.std.proofs.lemmas.Option.{slice_get_within}
 use Rattle.simplicity.specs.Nodes as node
@@ -8,12 +7,11 @@ use Rattle.simplicity.specs.Nodes.{Node, AreUnder, IsShown, AreCaseSides, CanFol
 use Rattle.simplicity.proofs.Unfold.{get_front, get_last}
 use Rattle.sharing.proofs.Unfolded.{number_next}
 use Rattle.infer_cells.specs.declared.typing.NodeArrow.{NodeArrow}
-use Rattle.infer_cells.specs.Typings.{IsBelowBound, AreBelowBound}
 use Rattle.term_core.specs.declared.table_node.Node.{Node as RowNode}
 use Rattle.term_core.specs.declared.table_node.Node.TheVariants as code
 use Rattle.term_core.specs.declared.table_node.TermRow.{TermRow}
 use Rattle.term_core.specs.Terms.{child_ids}
-use Rattle.row_lists.specs.Rows.{place_at, listed, hidden_nodes, hidden_arrows, own_names, SideAt, NameAt, RowAt, AreListed}
+use Rattle.row_lists.specs.Rows.{place_at, listed, hidden_nodes, hidden_arrows, own_names, SideAt, NameAt, RowAt}
 
 -- a row's node is never hidden
 pub listed_shown : (n : RowNode) (place : ℕ → ℕ) (hidden : ℕ) → IsShown (Some (listed place hidden n))

@@ -1,8 +1,7 @@
 -- The arrows of rows are a typing of their list.
-use Rattle.std.proofs.Common.{◌≡◌, ℕ, zero, suc, ◌+◌, ◌<◌, ◌≤◌, List, [], ◌∷◌, ◌++◌, length, refl, sym, ap, ◌∙◌, subst, arith, Option, Some, None, slice_get}
+use Rattle.std.proofs.Common.{◌≡◌, ℕ, ◌<◌, List, [], ◌∷◌, ◌++◌, refl, ap, ◌∙◌, Option, Some, None, slice_get}
 use Rattle.std.specs.Prelude.{replicate}
 use Rattle.simplicity.specs.Types.{Kind, Product}
-use Rattle.simplicity.specs.Nodes as node
 use Rattle.simplicity.specs.Nodes.{Node, AreUnder}
 use Rattle.simplicity.specs.Typing as typing
 use Rattle.simplicity.specs.Typing.{Arrow, arrow, Typing, Meets, EntryMeets, EntriesMeet, IsTyping}

@@ -1,7 +1,7 @@
 -- One pass puts each node into the class of its key.
-use Rattle.std.proofs.Common.{◌≡◌, refl, ap, sym, subst, ◌∙◌, ℕ, zero, suc, ◌+◌, ◌-◌, ◌<◌, ◌≤◌, Bool, true, false, List, [], ◌∷◌, ◌++◌, length, map, Option, Some, None, arith, length-append}
-use Rattle.std.specs.Prelude.{slice_get, nat_eq}
-use Rattle.std.specs.List.{range_with_len, slice_index_or}
+use Rattle.std.proofs.Common.{◌≡◌, refl, ap, sym, ◌∙◌, ℕ, zero, suc, ◌+◌, ◌-◌, ◌<◌, ◌≤◌, true, false, List, [], ◌∷◌, ◌++◌, length, map, Option, Some, arith, length-append}
+use Rattle.std.specs.Prelude.{slice_get}
+use Rattle.std.specs.List.{range_with_len}
 use Rattle.simplicity.specs.Nodes as node
 use Rattle.simplicity.specs.Nodes.{Node, AreUnder, children, IsPlaced, CanFollow}
 use Rattle.simplicity.specs.Order.{has}
@@ -10,8 +10,7 @@ use Rattle.simplicity.specs.Shared.{IsShared}
 use Rattle.simplicity.specs.Pruning.{renamed, IsMerged}
 use Rattle.simplicity.proofs.Unfold.{follows_at, children_under}
 use Rattle.sharing.specs.Images.{added, into, images}
-use Rattle.sharing.proofs.Closed.{AllOf}
-use Rattle.share_order.specs.Keys.{Key, number_for, own_key, place_at, key_for, nodes_in, arrows_in, Classes, KeysDiffer}
+use Rattle.share_order.specs.Keys.{Key, number_for, own_key, place_at, key_for, Classes}
 use Rattle.sharing.proofs.Merging.{within_of, there_at}
 use Rattle.sharing.proofs.Walks.{images_last}
 use Rattle.sharing.proofs.Orderly.{range_last, has_range_past, last_case}

@@ -1,14 +1,14 @@
 -- One more node of what the root reaches.
-use Rattle.std.proofs.Common.{◌≡◌, refl, ap, sym, subst, ◌∙◌, ℕ, zero, suc, ◌+◌, ◌<◌, ◌≤◌, false, List, [], ◌∷◌, ◌++◌, length, take, set, get_or, Option, Some, arith}
+use Rattle.std.proofs.Common.{◌≡◌, refl, ap, sym, subst, ◌∙◌, ℕ, zero, suc, ◌+◌, ◌<◌, ◌≤◌, List, [], ◌∷◌, ◌++◌, length, take, set, Some, arith}
 use Rattle.std.specs.Prelude.{slice_get}
-use Rattle.std.proofs.lemmas.List.{get_or-set_same, get_or-set_other, length-set, take_all}
+use Rattle.std.proofs.lemmas.List.{get_or-set_same, get_or-set_other, take_all}
 use Rattle.simplicity.specs.Nodes as node
 use Rattle.simplicity.specs.Nodes.{Node, AreUnder, children, CanFollow, IsPlaced}
-use Rattle.simplicity.specs.Order.{has, post_order}
+use Rattle.simplicity.specs.Order.{post_order}
 use Rattle.simplicity.specs.Pruning.{renamed, gathered}
 use Rattle.simplicity.proofs.Unfold.{follows_at, children_under}
 use Rattle.sharing.proofs.Closed.{AllHad, AllOf}
-use Rattle.sharing.proofs.Merging.{within_of, there_at}
+use Rattle.sharing.proofs.Merging.{within_of}
 use Rattle.sharing.proofs.Orderly.{position}
 use Rattle.sharing.proofs.Gathering.{Picked, post_picked, picked_within, picked_at, place_in_front, children_are, had_at, has_at, get_take, gathered_placed, gathered_length}
 use Rattle.share_order.specs.Keys.{place_at}

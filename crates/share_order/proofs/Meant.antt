@@ -1,15 +1,14 @@
 -- Classes by ids are classes by the arrows that the ids mean, and give a list merged in order.
-use Rattle.std.proofs.Common.{◌≡◌, refl, ap, sym, subst, ◌∙◌, ℕ, zero, suc, ◌+◌, ◌-◌, ◌<◌, ◌≤◌, true, List, [], ◌∷◌, length, map, Option, Some, arith}
+use Rattle.std.proofs.Common.{◌≡◌, refl, ap, sym, subst, ◌∙◌, ℕ, ◌+◌, ◌-◌, ◌<◌, true, List, [], ◌∷◌, length, map, Option, Some, arith}
 use Rattle.std.specs.Prelude.{slice_get}
 use Rattle.std.specs.List.{range_with_len}
 use Rattle.std.proofs.lemmas.List.{length-map}
 use Rattle.simplicity.specs.Types.{Kind}
-use Rattle.simplicity.specs.Nodes as node
 use Rattle.simplicity.specs.Nodes.{Node, IsPlaced}
 use Rattle.simplicity.specs.Order.{has, IsOrdered}
-use Rattle.simplicity.specs.Typing.{Typing, Arrow}
+use Rattle.simplicity.specs.Typing.{Typing}
 use Rattle.simplicity.specs.Shared.{IsShared}
-use Rattle.simplicity.specs.Pruning.{renamed, IsMerged}
+use Rattle.simplicity.specs.Pruning.{IsMerged}
 use Rattle.sharing.specs.Images.{images}
 use Rattle.sharing.proofs.Merging.{within_of, there_at}
 use Rattle.sharing.proofs.Merged.{into_from, has_range}

@@ -1,9 +1,9 @@
 -- A list whose nodes are all in their places is ordered.
-use Rattle.std.proofs.Common.{◌≡◌, refl, ap, sym, subst, ◌∙◌, ℕ, zero, suc, ◌+◌, ◌-◌, ◌<◌, ◌≤◌, Bool, true, false, List, [], ◌∷◌, length, take, Option, Some, None, arith}
+use Rattle.std.proofs.Common.{◌≡◌, refl, ap, sym, ◌∙◌, ℕ, zero, suc, ◌+◌, ◌<◌, ◌≤◌, List, [], ◌∷◌, length, take, Some, arith}
 use Rattle.std.specs.Prelude.{slice_get}
 use Rattle.std.specs.List.{range_with_len}
 use Rattle.simplicity.specs.Nodes.{Node, IsPlaced}
-use Rattle.simplicity.specs.Order.{has, post_order, IsOrdered, IsInPlace}
+use Rattle.simplicity.specs.Order.{post_order, IsOrdered, IsInPlace}
 use Rattle.sharing.proofs.Merging.{within_of, there_at}
 use Rattle.sharing.proofs.Merged.{same_elements, Split, Less, More, split}
 use Rattle.sharing.proofs.Orderly.{Orderly, post_orderly, range_get, range_length}

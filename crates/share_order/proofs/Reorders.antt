@@ -1,19 +1,19 @@
 -- What was gathered, typed and merged is the list reordered.
-use Rattle.std.proofs.Common.{◌≡◌, refl, ap, sym, subst, ◌∙◌, ℕ, zero, suc, ◌+◌, ◌-◌, ◌<◌, ◌≤◌, List, [], ◌∷◌, length, Option, Some, arith}
+use Rattle.std.proofs.Common.{◌≡◌, refl, ap, sym, subst, ◌∙◌, ℕ, zero, suc, ◌-◌, ◌<◌, List, [], ◌∷◌, length, Option, Some, arith}
 use Rattle.std.specs.Prelude.{slice_get}
 use Rattle.std.proofs.lemmas.Option.{get_or_from_slice_get, slice_get-get_or}
 use Rattle.simplicity.specs.Nodes.{Node, IsPlaced, HasRoot, IsShown}
-use Rattle.simplicity.specs.Order.{post_order, IsOrdered}
-use Rattle.simplicity.specs.Places.{Became, ArePlaces}
+use Rattle.simplicity.specs.Order.{post_order}
+use Rattle.simplicity.specs.Places.{ArePlaces}
 use Rattle.simplicity.specs.Typing.{Typing, Arrow, IsLeast, IsLight, IsEntryLight}
 use Rattle.simplicity.specs.Pruning.{IsMerged, IsReordered, gathered, renamed}
 use Rattle.sharing.proofs.Merging.{within_of, there_at}
 use Rattle.sharing.proofs.Merged.{merged_ordered, merged_onto}
 use Rattle.sharing.proofs.Orderly.{position, position_there}
-use Rattle.sharing.proofs.Gathering.{Picked, post_picked, picked_within, picked_at, place_is, has_at, root_place, shown_renamed, gathered_placed, gathered_ordered, gathered_full, gathered_length}
+use Rattle.sharing.proofs.Gathering.{post_picked, picked_within, picked_at, place_is, has_at, root_place, shown_renamed, gathered_placed, gathered_ordered, gathered_full, gathered_length}
 use Rattle.sharing.proofs.Reordered.{merged_is_reordered}
 use Rattle.share_order.specs.Keys.{place_at}
-use Rattle.share_order.specs.Least.{Went, AreLeast}
+use Rattle.share_order.specs.Least.{AreLeast}
 use Rattle.share_order.specs.Merged.{IsMergedInOrder}
 
 module _ (ns : List Node) (placed : IsPlaced ns) (full : 0 < length ns) where

@@ -1,9 +1,9 @@
 -- Where an ordered list's nodes go in order, its root goes to the root.
-use Rattle.std.proofs.Common.{◌≡◌, refl, ap, sym, ◌∙◌, ℕ, suc, ◌-◌, ◌<◌, ◌≤◌, true, false, List, [], length, map, Some, arith}
+use Rattle.std.proofs.Common.{◌≡◌, ap, sym, ◌∙◌, ℕ, suc, ◌-◌, ◌<◌, true, false, List, [], length, map, Some, arith}
 use Rattle.std.specs.Prelude.{slice_get}
 use Rattle.std.specs.List.{range_with_len}
 use Rattle.simplicity.specs.Nodes.{Node, IsPlaced}
-use Rattle.simplicity.specs.Order.{has, children_at, post_order, IsOrdered}
+use Rattle.simplicity.specs.Order.{has, children_at, IsOrdered}
 use Rattle.simplicity.specs.Pruning.{renamed}
 use Rattle.sharing.specs.Images.{images}
 use Rattle.sharing.specs.Laws.{ComeInOrder}

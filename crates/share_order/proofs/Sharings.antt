@@ -1,7 +1,6 @@
 -- Whether nodes are told apart by their own keys.
-use Rattle.std.proofs.Common.{◌≡◌, refl, ap, sym, subst, ◌∙◌, ℕ, zero, suc, ◌+◌, ◌<◌, ◌≤◌, List, [], ◌∷◌, ◌++◌, length, map, Option, Some, arith, length-append}
+use Rattle.std.proofs.Common.{◌≡◌, refl, ap, sym, ◌∙◌, ℕ, ◌+◌, ◌<◌, ◌≤◌, List, [], ◌∷◌, ◌++◌, length, Option, Some, arith, length-append}
 use Rattle.std.specs.Prelude.{slice_get}
-use Rattle.std.proofs.lemmas.List.{length-map}
 use Rattle.simplicity.specs.Types.{Kind}
 use Rattle.simplicity.specs.Nodes as node
 use Rattle.simplicity.specs.Nodes.{Node}
@@ -14,7 +13,7 @@ use Rattle.infer_cells.specs.declared.typing.NodeArrow.{NodeArrow}
 use Rattle.share_order.specs.Keys.{Key, number_for, own_key, KeysDiffer}
 use Rattle.share_order.specs.Told.{AreTold}
 use Rattle.share_order.specs.Refusals.{IsFirstEqual}
-use Rattle.share_order.proofs.Classing.{Grows, Old, New, get_map, from_map, number_plain, grown_front, grown_there, at_or_before}
+use Rattle.share_order.proofs.Classing.{Grows, Old, New, get_map, number_plain, grown_front, grown_there, at_or_before}
 
 abbrev Ids : Type 0
 Ids = List (Option NodeArrow)

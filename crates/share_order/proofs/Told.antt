@@ -1,9 +1,9 @@
 -- Arrows by ids, and the arrows that they mean.
-use Rattle.std.proofs.Common.{◌≡◌, refl, ap, sym, subst, ◌∙◌, ℕ, zero, suc, ◌+◌, ◌<◌, ◌≤◌, List, [], ◌∷◌, length, take, map, Option, Some, None, get_or, arith}
+use Rattle.std.proofs.Common.{◌≡◌, refl, ap, sym, subst, ◌∙◌, ℕ, zero, suc, ◌+◌, ◌<◌, ◌≤◌, List, [], ◌∷◌, length, Option, Some, None, arith}
 use Rattle.std.specs.Prelude.{slice_get}
 use Rattle.simplicity.specs.Types.{Kind}
 use Rattle.simplicity.specs.Typing.{Arrow, source_of, target_of}
-use Rattle.type_table.specs.Kinds.{kind_at, IsDistinct}
+use Rattle.type_table.specs.Kinds.{IsDistinct}
 use Rattle.infer_cells.specs.Typings.{arrow_in, IsBelowBound, AreBelowBound}
 use Rattle.infer_cells.specs.declared.typing.NodeArrow.{NodeArrow}
 use Rattle.sharing.proofs.Merging.{within_of}

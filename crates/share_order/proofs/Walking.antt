@@ -1,18 +1,18 @@
 -- Steps of a walk: what ends after them, how many are left, and the marks.
-use Rattle.std.proofs.Common.{◌≡◌, refl, ap, sym, subst, ◌∙◌, ℕ, zero, suc, ◌+◌, ◌-◌, ◌*◌, ◌<◌, ◌≤◌, Bool, true, false, ◌||◌, List, [], ◌∷◌, ◌++◌, length, get_or, set, Option, Some, None, arith, append_assoc, length-append, eqb-true, eq-eqb}
+use Rattle.std.proofs.Common.{◌≡◌, refl, ap, sym, subst, ◌∙◌, ℕ, zero, suc, ◌+◌, ◌-◌, ◌<◌, ◌≤◌, Bool, true, false, List, [], ◌∷◌, ◌++◌, length, get_or, set, Some, arith, append_assoc, eqb-true, eq-eqb}
 use Rattle.std.specs.Prelude.{slice_get, nat_eq, replicate}
 use Rattle.std.proofs.lemmas.List.{get_or-set_same, get_or-set_other, get_or-replicate, length-replicate, length-set}
 use Rattle.simplicity.specs.Nodes as node
 use Rattle.simplicity.specs.Nodes.{Node, AreUnder, children, IsPlaced}
 use Rattle.simplicity.specs.Order.{has, over, unless_ended, children_at, post_order}
-use Rattle.sharing.proofs.Closed.{ends, IsDown}
-use Rattle.sharing.proofs.Walks.{ends_step, has_self, has_front, has_other}
+use Rattle.sharing.proofs.Closed.{ends}
+use Rattle.sharing.proofs.Walks.{ends_step, has_self, has_other}
 use Rattle.sharing.proofs.Orderly.{post_order_ends}
 use Rattle.sharing.proofs.Gathering.{down_of, children_are}
 use Rattle.simplicity.proofs.Unfold.{follows_at, children_under}
 use Rattle.share_order.specs.declared.walk.Step.{Step}
 use Rattle.share_order.specs.declared.walk.Step.TheVariants as step
-use Rattle.share_order.specs.Steps.{taken, after, entries, cost, step_load, load, place_of, AreWithin, Marks}
+use Rattle.share_order.specs.Steps.{taken, after, entries, cost, load, place_of, AreWithin, Marks}
 
 pub after_last : (ns : List Node) (xs : List Step) (s : Step) (done : List ℕ) → after ns (xs ++ s ∷ []) done ≡ after ns xs (taken ns s done)
 after_last ns [] s done = refl

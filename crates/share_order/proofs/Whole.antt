@@ -1,11 +1,11 @@
 -- What was gathered, typed and merged, as the code has it.
-use Rattle.std.proofs.Common.{◌≡◌, ap, sym, subst, ◌∙◌, ℕ, ◌<◌, List, length, Option, Some, arith}
+use Rattle.std.proofs.Common.{◌≡◌, ap, sym, subst, ◌∙◌, ℕ, ◌<◌, List, length, Option, Some}
 use Rattle.std.specs.Prelude.{slice_get}
 use Rattle.std.proofs.lemmas.List.{length-map}
 use Rattle.simplicity.specs.Types.{Kind}
 use Rattle.simplicity.specs.Nodes.{Node, IsPlaced, HasRoot}
 use Rattle.simplicity.specs.Order.{post_order, IsOrdered}
-use Rattle.simplicity.specs.Typing.{Typing, Arrow, IsLeast, IsTyping, IsTypingAt, IsLight, HasNoTyping}
+use Rattle.simplicity.specs.Typing.{Typing, Arrow, IsLeast, IsTyping, IsTypingAt, HasNoTyping}
 use Rattle.simplicity.specs.Light.{IsLightTyping}
 use Rattle.simplicity.specs.Limits.{most_weight}
 use Rattle.simplicity.specs.Pruning.{IsReordered, gathered}

@@ -1,5 +1,5 @@
 -- What a refusal of a list says of it.
-use Rattle.std.specs.Prelude.{◌≡◌, ℕ, ◌<◌, ◌≤◌, List, length}
+use Rattle.std.specs.Prelude.{ℕ, ◌<◌, ◌≤◌, List, length}
 use Rattle.simplicity.specs.Nodes.{Node}
 use Rattle.simplicity.specs.Order.{IsInPlace}
 use Rattle.simplicity.specs.Limits.{most_weight, most_nodes}

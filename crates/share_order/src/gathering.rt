@@ -9,11 +9,7 @@ use std::alloc::{AllocError, Global};
 use term_core::NodeList;
 
 /// The nodes that the root reaches, in their order, which is the left-first post-order.
-pub fn gather(
-    alloc: Global,
-    nodes: &NodeList,
-    order: &[usize],
-) -> Result<NodeList, AllocError>
+pub fn gather(alloc: Global, nodes: &NodeList, order: &[usize]) -> Result<NodeList, AllocError>
     requires full { 0 < length nodes.now }
     requires order { order.now ≡ spec.post_order nodes.now }
     ensures { IfOk result (λ list. list ≡ gathered nodes.now) }

@@ -1,4 +1,4 @@
-use Rattle.std.proofs.Common.{◌≡◌, ap, sym, subst, ◌∙◌, length, List, ℕ, Some, ◌<◌}
+use Rattle.std.proofs.Common.{◌≡◌, sym, subst, length, List, ℕ, ◌<◌}
 use Rattle.simplicity.specs.Typing.{Arrow}
 use Rattle.simplicity.specs.Arrows.{declared_arrow}
 use Rattle.simplicity.specs.Canon.{erased, IsCanon}

@@ -1,5 +1,4 @@
-use Rattle.std.proofs.Common.{ap, sym, ◌∙◌, ◌≡◌, ◌<◌, Some, length, get_or, arith}
-use Rattle.simplicity.specs.Nodes.{witness_number}
+use Rattle.std.proofs.Common.{ap, ◌∙◌, Some, length, get_or, arith}
 use Rattle.term_core.specs.Nodes.{node_of}
 use Rattle.canon_list.proofs.Counting.{number_below}
 use Rattle.canon_list.proofs.Gathers.{item_under, item_at, number_at, numbers_many, names_witness, names_plain}
@@ -29,15 +28,15 @@ loop-node-preserved c =
     let inside = item_under (length c.args.nodes.now) c.args.order.now c.loop-node.node-index 0 c.requires.within c.loop-node-test.true in
     let there = item_at c.args.order.now c.loop-node.node-index c.loop-node-test.true in
     elim c.if-is_witness.branch [
-    | then-is_witness+in_ok-push w ↦
-        let witness = c.get.ensures ∙ ap Some (c.is_witness.ensures.yes w.if-is_witness.true) in
-        let below = number_below c.args.nodes.now i witness in
-        let number = w.index.ensures ∙ number_at c.args.nodes.now c.in_ok-numbers.numbers.items i w.index.result.now c.in_ok-numbers.ensures inside in
-        ap (λ v. v.items) w.gathered-is
-        ∙ w.in_ok-push.ensures.items
-        ∙ names_witness c.args.nodes.now c.args.names.now c.args.order.now c.loop-node.node-index i c.loop-node.gathered.items w.name.result there witness c.loop-node.invariant
-        (w.name.ensures ∙ ap (λ k. get_or c.args.names.now k 0) number) (omega (arith, below, c.requires.named))
-    | else-is_witness w ↦
-        ap (λ v. v.items) w.gathered-is
-        ∙ names_plain c.args.nodes.now c.args.names.now c.args.order.now c.loop-node.node-index i c.loop-node.gathered.items (node_of c.get.result.now) there c.get.ensures (c.is_witness.ensures.no w.if-is_witness.false) c.loop-node.invariant
+      | then-is_witness+in_ok-push w ↦
+          let witness = c.get.ensures ∙ ap Some (c.is_witness.ensures.yes w.if-is_witness.true) in
+          let below = number_below c.args.nodes.now i witness in
+          let number = w.index.ensures ∙ number_at c.args.nodes.now c.in_ok-numbers.numbers.items i w.index.result.now c.in_ok-numbers.ensures inside in
+          ap (λ v. v.items) w.gathered-is
+          ∙ w.in_ok-push.ensures.items
+          ∙ names_witness c.args.nodes.now c.args.names.now c.args.order.now c.loop-node.node-index i c.loop-node.gathered.items w.name.result there witness c.loop-node.invariant
+          (w.name.ensures ∙ ap (λ k. get_or c.args.names.now k 0) number) (omega (arith, below, c.requires.named))
+      | else-is_witness w ↦
+          ap (λ v. v.items) w.gathered-is
+          ∙ names_plain c.args.nodes.now c.args.names.now c.args.order.now c.loop-node.node-index i c.loop-node.gathered.items (node_of c.get.result.now) there c.get.ensures (c.is_witness.ensures.no w.if-is_witness.false) c.loop-node.invariant
     ]

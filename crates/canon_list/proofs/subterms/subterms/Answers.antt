@@ -1,5 +1,4 @@
-use Rattle.std.proofs.Common.{◌≡◌, ap, sym, subst, ◌∙◌, length, List, ℕ}
-use Rattle.simplicity.specs.Nodes.{AreUnder}
+use Rattle.std.proofs.Common.{ap, ◌∙◌, List, ℕ}
 use Rattle.simplicity.specs.Canon.{names_at}
 use Rattle.simplicity.specs.Pruning.{numbers_at}
 use Rattle.infer_cells.specs.Typings.{typing_in}

@@ -1,10 +1,7 @@
-use Rattle.std.proofs.Common.{◌≡◌, ◌<◌, ◌++◌, [], ◌∷◌, ℕ, List, length, Some, Option, slice_get, ap, sym, subst, ◌∙◌, arith}
-use Rattle.simplicity.specs.Nodes.{Node, AreUnder, CanFollow}
-use Rattle.infer_cells.specs.declared.typing.NodeArrow.{NodeArrow}
-use Rattle.term_core.specs.declared.table_node.TermRow.{TermRow}
+use Rattle.std.proofs.Common.{◌≡◌, ℕ, length, ap, sym, subst, ◌∙◌, arith}
+use Rattle.simplicity.specs.Nodes.{AreUnder}
 use Rattle.term_core.specs.declared.table_node.Node.{Node as RowNode}
 use Rattle.term_core.specs.Terms.{child_ids}
-use Rattle.row_lists.specs.Rows.{listed, place_at, hidden_nodes}
 use Rattle.row_lists.proofs.Meaning.{children_below}
 use Rattle.row_lists.proofs.Listing.{follows_on, listing_on, listing_whole}
 use Rattle.row_lists.proofs.list.list_rows.Goals as goal

@@ -1,4 +1,4 @@
-use Rattle.std.proofs.Common.{◌≡◌, ◌+◌, ap, sym, subst, ◌∙◌, length, length-append, Option, List, ℕ, ◌<◌, arith}
+use Rattle.std.proofs.Common.{◌≡◌, ap, sym, subst, ◌∙◌, length, length-append, Option, List, ℕ, arith}
 use Rattle.std.specs.Prelude.{slice_get}
 use Rattle.simplicity.specs.Nodes.{children, AreUnder}
 use Rattle.term_core.specs.Nodes.{node_of}

@@ -1,4 +1,4 @@
-use Rattle.std.proofs.Common.{◌≡◌, ap, ◌∙◌, ℕ, min, get_or, arith}
+use Rattle.std.proofs.Common.{ap, ◌∙◌, ℕ, min, get_or, arith}
 use Rattle.std.proofs.lemmas.List.{get_or_default}
 use Rattle.std.proofs.lemmas.Option.{slice_get-get_or}
 use Rattle.share_order.proofs.Leasts.{least_next, least_all}

@@ -1,8 +1,8 @@
-use Rattle.std.proofs.Common.{◌≡◌, ap, sym, subst, ◌∙◌, length, List, Option}
+use Rattle.std.proofs.Common.{sym, subst, length, List, Option}
 use Rattle.simplicity.specs.Nodes.{Node}
 use Rattle.infer_cells.specs.Typings.{typing_in, AreBelowBound}
 use Rattle.infer_cells.specs.declared.typing.NodeArrow.{NodeArrow}
-use Rattle.share_order.specs.Keys.{place_at, keys_of, nodes_in, arrows_in}
+use Rattle.share_order.specs.Keys.{place_at, keys_of, arrows_in}
 use Rattle.share_order.specs.Merged.{IsMergedInOrder}
 use Rattle.share_order.proofs.Meant.{classes_in_order, arrows_bound}
 use Rattle.share_order.proofs.merging.merge.Goals as goal

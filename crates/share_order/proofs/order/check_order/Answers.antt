@@ -1,4 +1,4 @@
-use Rattle.std.proofs.Common.{◌≡◌, ◌<◌, length, subst, ℕ, arith}
+use Rattle.std.proofs.Common.{◌<◌, subst, ℕ, arith}
 use Rattle.share_order.proofs.Ordering.{all_in_place, full_by}
 use Rattle.share_order.proofs.order.check_order.Goals as goal
 

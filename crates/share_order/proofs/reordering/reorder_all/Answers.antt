@@ -1,4 +1,4 @@
-use Rattle.std.proofs.Common.{◌≡◌, ap, sym, subst, ◌∙◌, length, List, ℕ, ◌<◌}
+use Rattle.std.proofs.Common.{ap, sym, subst, ◌∙◌, length, List, ℕ, ◌<◌}
 use Rattle.infer_cells.specs.Constrained.{arrow_between}
 use Rattle.infer_cells.specs.Typings.{typing_in}
 use Rattle.simplicity.specs.Pruning.{IsReordered}

@@ -1,8 +1,7 @@
-use Rattle.std.proofs.Common.{◌≡◌, ap, sym, subst, ◌∙◌, length, List, ℕ, Some, ◌+◌, ◌<◌, ◌≤◌, Option, arith}
-use Rattle.std.specs.Prelude.{slice_get}
+use Rattle.std.proofs.Common.{subst, Option, arith}
 use Rattle.term_core.specs.Nodes.{node_of}
 use Rattle.infer_cells.specs.declared.typing.NodeArrow.{NodeArrow}
-use Rattle.share_order.specs.Keys.{Key, own_key, keys_of}
+use Rattle.share_order.specs.Keys.{Key, keys_of}
 use Rattle.share_order.proofs.Classing.{Grows}
 use Rattle.share_order.proofs.Keyed.{inserted, keys_differ, self_kept, wide_kept}
 use Rattle.share_order.proofs.Sharings.{own_next, first_equal, all_apart}

@@ -1,4 +1,4 @@
-use Rattle.std.proofs.Common.{◌≡◌, ap, sym, ◌∙◌, arith, length, Some, None}
+use Rattle.std.proofs.Common.{ap, ◌∙◌, arith, length, Some}
 use Rattle.share_order.proofs.Told.{bound_of, told, none_told, none_next}
 use Rattle.share_order.proofs.tell.tell_apart.Goals as goal
 
