@@ -52,13 +52,13 @@ module _ (named : List NamedFile) (before now after : StoreState) (place : ℕ) 
 
   pub one_more : (bytes : List ℕ) → after.held ≡ now.held → now.faults ≤ after.faults → Holds now.held (file_of file).name (Some bytes) × (length bytes ≤ (file_of file).most) → Reached named before after (place + 1) (found ++ bytes ∷ [])
   one_more bytes same rises holds = subst (λ n. Reached named before after n (found ++ bytes ∷ [])) (omega arith) (record {
-    held = same ∙ h.held;
-    within = omega (arith, less);
-    reads = counted;
-    faults = omega (arith, h.faults, rises);
-    were = subst (λ fs. WereRead before.held fs (found ++ bytes ∷ [])) (sym (taken named place less is))
-        (were_more before.held (take place (map file_of named)) found (file_of file) bytes h.were (subst (λ st. Holds st (file_of file).name (Some bytes) × (length bytes ≤ (file_of file).most)) h.held holds));
-  })
+        held = same ∙ h.held;
+        within = omega (arith, less);
+        reads = counted;
+        faults = omega (arith, h.faults, rises);
+        were = subst (λ fs. WereRead before.held fs (found ++ bytes ∷ [])) (sym (taken named place less is))
+            (were_more before.held (take place (map file_of named)) found (file_of file) bytes h.were (subst (λ st. Holds st (file_of file).name (Some bytes) × (length bytes ≤ (file_of file).most)) h.held holds));
+      })
     where
       taken : (xs : List NamedFile) (i : ℕ) → i < length xs → file ≡ get_or xs i file → take (suc i) (map file_of xs) ≡ take i (map file_of xs) ++ file_of file ∷ []
       taken [] i l e = absurd (omega (arith, l))
