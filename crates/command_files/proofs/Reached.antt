@@ -51,7 +51,8 @@ module _ (named : List NamedFile) (before now after : StoreState) (place : ℕ) 
   counted = read ∙ ap raised h.reads
 
   pub one_more : (bytes : List ℕ) → after.held ≡ now.held → now.faults ≤ after.faults → Holds now.held (file_of file).name (Some bytes) × (length bytes ≤ (file_of file).most) → Reached named before after (place + 1) (found ++ bytes ∷ [])
-  one_more bytes same rises holds = subst (λ n. Reached named before after n (found ++ bytes ∷ [])) (omega arith) (record {
+  one_more bytes same rises holds =
+      let next : suc place ≡ place + 1 = omega arith in subst (λ n. Reached named before after n (found ++ bytes ∷ [])) next (record {
         held = same ∙ h.held;
         within = omega (arith, less);
         reads = counted;
