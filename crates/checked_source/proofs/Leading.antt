@@ -88,8 +88,10 @@ pub witnesses_stop : (file : List ℕ) (names wanted : List TypedName) (refusal 
 witnesses_stop file names wanted refusal stop same read is =
     stops_in (IsBadWitnesses refusal) (IsWitnesses file wanted (λ _. Never)) stop (λ s o e a. record { found = Err refusal; read = subst (λ ns. ReadsWanted file ns (Err refusal)) same read; answer = a }) is
 
-pub given_read : (file : List ℕ) (names : List TypedName) (entries : List Entry) → Leads (IsWitnesses file names) (Ok entries) → Leads (IsGivenWitnesses (Some file) names) (Ok (Some entries))
-given_read file names entries leads = λ s o e. grows_witnesses file names (Exactly entries) (λ found. Exactly (Some entries) (Some found)) s o e (λ found is. ap Some is) (leads s o e)
+pub given_read : (file : Option (List ℕ)) (bytes : List ℕ) (names : List TypedName) (entries : List Entry) → file ≡ Some bytes → Leads (IsWitnesses bytes names) (Ok entries) → Leads (IsGivenWitnesses file names) (Ok (Some entries))
+given_read file bytes names entries is leads =
+    let read : Leads (IsGivenWitnesses (Some bytes) names) (Ok (Some entries)) = λ s o e. grows_witnesses bytes names (Exactly entries) (λ found. Exactly (Some entries) (Some found)) s o e (λ found same. ap Some same) (leads s o e) in
+    subst (λ f. Leads (IsGivenWitnesses f names) (Ok (Some entries))) (sym is) read
 
-pub given_stop : (file : List ℕ) (names : List TypedName) (stop : Stop) → Leads {X = List Entry} (IsWitnesses file names) (Err stop) → Leads {X = Option (List Entry)} (IsGivenWitnesses (Some file) names) (Err stop)
-given_stop file names stop is = is
+pub given_stop : (file : Option (List ℕ)) (bytes : List ℕ) (names : List TypedName) (stop : Stop) → file ≡ Some bytes → Leads {X = List Entry} (IsWitnesses bytes names) (Err stop) → Leads {X = Option (List Entry)} (IsGivenWitnesses file names) (Err stop)
+given_stop file bytes names stop is stopped = subst (λ f. Leads {X = Option (List Entry)} (IsGivenWitnesses f names) (Err stop)) (sym is) stopped

@@ -6,6 +6,6 @@ pub returns-in-Ok-clause-checked : goal.returns-in-Ok-clause-checked
 returns-in-Ok-clause-checked c =
     entries_lead (asking_of c.args.asked) c.args.end c.args.program.now c.object_in.result.now c.in_ok-names.names c.in-Ok.params c.check_rules.result c.object_in.ensures c.in_ok-names.ensures c.in-Ok.ensures.read c.check_rules.ensures.checked
 
-pub returns-in-Err-clause-checked : goal.returns-in-Err-clause-checked
-returns-in-Err-clause-checked c =
+pub returns-clause-checked : goal.returns-clause-checked
+returns-clause-checked c =
     entries_stop (asking_of c.args.asked) c.args.end c.args.program.now c.object_in.result.now c.in_ok-names.names c.in-Err.refusal c.refused_args.result c.object_in.ensures c.in_ok-names.ensures c.in-Err.ensures.read c.refused_args.ensures

@@ -8,5 +8,5 @@ returns-in-Ok-clause-read c = witnesses_read c.args.file.now c.wanted_in.result.
 pub returns-in-Ok-clause-wanted : goal.returns-in-Ok-clause-wanted
 returns-in-Ok-clause-wanted c = c.in-Ok.ensures.wanted ∙ c.wanted_in.ensures
 
-pub returns-in-Err-clause-read : goal.returns-in-Err-clause-read
-returns-in-Err-clause-read c = witnesses_stop c.args.file.now c.wanted_in.result.now _ c.in-Err.refusal c.refused_witnesses.result c.wanted_in.ensures c.in-Err.ensures.read c.refused_witnesses.ensures
+pub returns-clause-read : goal.returns-clause-read
+returns-clause-read c = witnesses_stop c.args.file.now c.wanted_in.result.now _ c.in-Err.refusal c.refused_witnesses.result c.wanted_in.ensures c.in-Err.ensures.read c.refused_witnesses.ensures

@@ -17,7 +17,7 @@ returns-in-Ok c =
     led_line (IsWitnesses (object_of (option_copied c.args.given.witness)) (wanted c.args.given.asked.function.now c.args.program.now)) (FromArgument (given_of c.args.given) c.args.program.now) c.in-Ok.witness c.from_argument.result
     (grows_witnesses (object_of (option_copied c.args.given.witness)) (wanted c.args.given.asked.function.now c.args.program.now)) c.in-Ok.ensures.read c.from_argument.ensures
 
-pub returns : goal.returns
-returns c =
+pub returns-in-Err : goal.returns-in-Err
+returns-in-Err c =
     stopped (IsWitnesses (object_of (option_copied c.args.given.witness)) (wanted c.args.given.asked.function.now c.args.program.now)) (FromArgument (given_of c.args.given) c.args.program.now) c.in-Err.stop
     (grows_witnesses (object_of (option_copied c.args.given.witness)) (wanted c.args.given.asked.function.now c.args.program.now)) c.in-Err.ensures.read
