@@ -1,6 +1,7 @@
 pub mod Exprs
 pub mod Items
 pub mod Lengths
+pub mod Matches
 pub mod Pairs
 pub mod Rolled
 pub mod Whole

@@ -1,5 +1,6 @@
 pub mod Arms
 pub mod Forms
+pub mod Jets
 pub mod Knowns
 pub mod Nests
 pub mod Scopes

@@ -1,14 +1,11 @@
 //! Calls of functions and jets.
 
 ghost use Rattle.std.specs.Prelude.{◌≡◌, length, OnOk};
-ghost use Rattle.jet_table.specs.Rows.{row_of};
-ghost use Rattle.hl_rules.specs.Exprs.{jet_result};
-ghost use Rattle.hl_rules.specs.Same.{same_type};
-ghost use Rattle.hl_rules.specs.Steps.{needs};
 ghost use Rattle.hl_types.specs.Walks.{AreSound};
 ghost use Rattle.simplicityhl.specs.Kinds.{IsSound};
 ghost use Rattle.hl_scope.specs.Checks.{Checks, ChecksAt, ChecksIn};
 ghost use Rattle.hl_check.specs.Forms.{arguments_in, call_form, jet_form};
+ghost use Rattle.hl_check.specs.Jets.{result_fits};
 ghost use Rattle.hl_check.specs.Nests.{Nests};
 
 use crate::checking::Checking;
@@ -21,7 +18,7 @@ use std::alloc::Global;
 
 /// That the result of a jet is of the type that is asked.
 fn result_fits(alloc: Global, row: &JetRow, asked: Asked<'_>) -> Result<(), CheckRefusal>
-    ensures { Checks (needs (same_type (jet_result (row_of row.now)) asked.expected.now) asked.rule asked.span) result }
+    ensures { Checks (result_fits row.now asked.entry) result }
 {
     let given = result_type(alloc, row)?;
     needs(same_type(&given, asked.expected), asked.rule, asked.span)

@@ -1,5 +1,5 @@
 -- Witnesses at their first places, one after the other.
-use Rattle.std.proofs.Common.{◌≡◌, true, false, List, [], ◌∷◌, ◌++◌, refl, sym, ap, ◌∙◌, append_assoc, append-nil}
+use Rattle.std.proofs.Common.{◌≡◌, true, false, List, [], ◌∷◌, ◌++◌, refl, sym, append_assoc, append-nil}
 use Rattle.hl_syntax.specs.declared.kinds.TypedName.{TypedName}
 use Rattle.hl_rules.specs.Places.{has_name}
 use Rattle.hl_rules.specs.Witnesses.{first_witnesses}

@@ -41,8 +41,7 @@ impl<'a> Model for Checker<'a> {
 
     ghost coded = { coded_context };
 
-    ghost view =
-        { λ k. record { aliases = k.aliases.now; functions = k.functions.now; entries = k.entries.now; in_main = k.in_main; edition = k.edition } };
+    ghost view = { λ k. record { aliases = k.aliases.now; functions = k.functions.now; entries = k.entries.now; in_main = k.in_main; edition = k.edition } };
 
     ghost invariant = { λ k. AreSound k.aliases.now × All IsSoundFunction k.functions.now };
 }

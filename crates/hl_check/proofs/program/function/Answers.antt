@@ -23,7 +23,7 @@ returns-clause-gives c =
     let head = head_of (c.in_ok-params.params, c.in_ok-params.kind) in
     let is : head_walk known.aliases known.functions c.args.name.now c.args.parts.now c.args.text.now ≡ Ok head = rw c.as_slice-functions.ensures at c.in_ok-params.ensures.answers in
     let answer : List ℕ → TypedExpr → Result (TypedFunction × List TypedName) Broken =
-        λ name found. Ok (record { name = name; params = c.in_ok-params.params; result = c.in_ok-params.kind; body = found }, c.in_ok-found.met) in
+    λ name found. Ok (record { name = name; params = c.in_ok-params.params; result = c.in_ok-params.kind; body = found }, c.in_ok-found.met) in
     function_found c.args.setting.entries.now c.args.setting.edition known c.args.name.now c.args.parts.now c.args.text.now c.args.e.now c.args.known.now.met head
     c.in_ok-found.found c.in_ok-found.met is c.in_ok-found.ensures
     ∙ ap (λ name. answer name c.in_ok-found.found) (sym c.in_ok-copied.ensures) ∙ ap (λ found. answer c.in_ok-copied.copied found) (sym c.into_inner.ensures)

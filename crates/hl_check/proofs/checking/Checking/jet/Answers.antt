@@ -6,8 +6,8 @@ use Rattle.hl_check.proofs.checking.Checking.jet.Goals as goal
 pub returns-in_err-needs-clause-gives : goal.returns-in_err-needs-clause-gives
 returns-in_err-needs-clause-gives g c = rw (map_length (expr_walk c.args.self.now.checker.now) c.args.parts.now) (search rules)
 
-pub returns-in_err-needs-2-clause-gives : goal.returns-in_err-needs-2-clause-gives
-returns-in_err-needs-2-clause-gives g c = rw (map_length (expr_walk c.args.self.now.checker.now) c.args.parts.now) (search rules)
+pub returns-in_err-result_fits-clause-gives : goal.returns-in_err-result_fits-clause-gives
+returns-in_err-result_fits-clause-gives g c = rw (map_length (expr_walk c.args.self.now.checker.now) c.args.parts.now) (search rules)
 
 pub returns-in_err-found-clause-gives : goal.returns-in_err-found-clause-gives
 returns-in_err-found-clause-gives g c = rw (map_length (expr_walk c.args.self.now.checker.now) c.args.parts.now) (search rules)
