@@ -62,7 +62,7 @@ module _ (reading : Reading) (before after : StoreState) where
       let all = all_whole before.held (files_of reading) found (AfterFiles reading) s o e were a in
       outcome all.contents all.hold all.answer (read ∙ ap (λ n. raises n before.reads) (sym all.count)) (names_settled s e (settled_after reading found s o e a))
 
-  pub files_stop : {G : Type 0} (files : List File) (stop : Stop) → files ≡ files_of reading → AreReadFrom {G = G} before after files (Err stop) → Stops (IsAllowed reading before after) stop
+  pub files_stop : (files : List File) (stop : Stop) → files ≡ files_of reading → Stops (IsFirstUnread files before after) stop → Stops (IsAllowed reading before after) stop
   files_stop files stop are is = stops_in (IsFirstUnread (files_of reading) before after) (IsAllowed reading before after) stop allowed_unread (subst (λ fs. Stops (IsFirstUnread fs before after) stop) are is)
 
   pub files_answered : {G H : Type 0} (files : List File) (found : Vec (Vec ℕ G) G) (r : Result (String H) Stop) → files ≡ files_of reading → AreReadFrom before after files (Ok found) → GivesLine (AfterFiles reading (texts_of found.items)) r → GivesLine (IsAllowed reading before after) r

@@ -14,4 +14,4 @@ returns-in-Err-Refused-clause-answer g c =
 
 pub returns-in-Err-OutOfMemory-clause-answer : goal.returns-in-Err-OutOfMemory-clause-answer
 returns-in-Err-OutOfMemory-clause-answer g c =
-    refused_answer (reading (texts c.args.words.now)) _ _ _ _ _ _ _ _ (no_memory (record { status_is = refl; nothing = refl; line_is = refl })) c.refuse-in-Err-OutOfMemory.ensures
+    refused_answer (reading (texts c.args.words.now)) _ _ _ _ _ _ _ _ (no_memory (record { status_is = refl; nothing = refl; line_is = refl })) (rw c.no_memory_line.ensures at c.refuse-in-Err-OutOfMemory.ensures)
