@@ -1,11 +1,9 @@
-//! Witnesses, what is taken back, and many binds.
+//! Witnesses, what is taken back, and many binds. A path doesn't depend on types, so one stands for all.
 
-ghost use Rattle.std.specs.Prelude.{◌≡◌, ◌+◌, ◌≤◌, length, OnOk};
-
-use crate::paths::written;
+use crate::paths::{paths_of, witness_paths_of};
 use hl_syntax::{HlType, Pattern, PatternForm, Patterns, Span, TypedName};
-use lists::{Sequence, Text};
-use scope_layout::{Layout, Path, Step, WitnessNames};
+use lists::Text;
+use scope_layout::{Layout, Step, WitnessNames};
 use std::alloc::{AllocError, Global};
 use std::test::Fail;
 
@@ -35,102 +33,94 @@ fn witnesses(alloc: Global, names: &[&str]) -> Result<WitnessNames, AllocError> 
     Ok(all)
 }
 
+/// A scope of one name, with witnesses and another name bound before it.
+fn with_witnesses<'a>(
+    alloc: Global,
+    x: &'a Pattern,
+    bound: &'a WitnessNames,
+    w: &'a Pattern,
+    kind: &'a HlType,
+) -> Result<Layout<'a>, AllocError> {
+    let mut layout = Layout::new(alloc, x, kind)?;
+    layout.bind_witnesses(bound)?;
+    layout.bind(w, kind)?;
+    Ok(layout)
+}
+
 #[test]
 fn witnesses_beside_variables(rt: HostRuntime) -> Result<(), Fail> {
     let alloc = rt.alloc();
-    let byte = HlType::UInt(8);
+    let kind = HlType::UInt(8);
     let x = named(alloc, "x")?;
-    let w = named(alloc, "w")?;
     let bound = witnesses(alloc, &["x", "w", "v"])?;
-    let mut layout = Layout::new(alloc, &x, &byte)?;
-    assert_eq!(rt; written(alloc, layout.witness_path("x")?)?.as_str(), "-");
-    layout.bind_witnesses(&bound)?;
-    assert_eq!(rt; written(alloc, layout.path("x")?)?.as_str(), "IH");
-    assert_eq!(rt; written(alloc, layout.path("w")?)?.as_str(), "-");
-    layout.bind(&w, &byte)?;
-    assert_eq!(rt; written(alloc, layout.path("w")?)?.as_str(), "OH");
-    assert_eq!(rt; written(alloc, layout.path("x")?)?.as_str(), "IIH");
-    assert_eq!(rt; written(alloc, layout.witness_path("x")?)?.as_str(), "IOOH");
+    let w = named(alloc, "w")?;
+    let layout = with_witnesses(alloc, &x, &bound, &w, &kind)?;
     assert_eq!(rt;
-        written(alloc, layout.witness_path("w")?)?.as_str(),
-        "IOIOH"
+        paths_of(alloc, &layout, &["x", "w", "v"])?.as_str(),
+        "IIH OH -"
     );
     assert_eq!(rt;
-        written(alloc, layout.witness_path("v")?)?.as_str(),
-        "IOIIH"
+        witness_paths_of(alloc, &layout, &["x", "w", "v", "y"])?.as_str(),
+        "IOOH IOIOH IOIIH -"
     );
-    assert_eq!(rt; written(alloc, layout.witness_path("y")?)?.as_str(), "-");
     Ok(())
+}
+
+/// The paths of two names after both are bound before the second, and the last is taken back.
+fn after_unbind(
+    alloc: Global,
+    x: &Pattern,
+    y: &Pattern,
+    kind: &HlType,
+) -> Result<String, AllocError> {
+    let mut layout = Layout::new(alloc, x, kind)?;
+    layout.bind(y, kind)?;
+    layout.bind(x, kind)?;
+    layout.unbind();
+    paths_of(alloc, &layout, &["x", "y"])
 }
 
 #[test]
 fn takes_back_the_last(rt: HostRuntime) -> Result<(), Fail> {
     let alloc = rt.alloc();
-    let byte = HlType::UInt(8);
+    let kind = HlType::UInt(8);
     let x = named(alloc, "x")?;
     let y = named(alloc, "y")?;
-    let mut layout = Layout::new(alloc, &x, &byte)?;
-    layout.bind(&y, &byte)?;
-    layout.bind(&x, &byte)?;
-    assert_eq!(rt; written(alloc, layout.path("x")?)?.as_str(), "OH");
-    layout.unbind();
-    assert_eq!(rt; written(alloc, layout.path("x")?)?.as_str(), "IH");
-    assert_eq!(rt; written(alloc, layout.path("y")?)?.as_str(), "OH");
-    layout.unbind();
-    assert_eq!(rt; written(alloc, layout.path("x")?)?.as_str(), "H");
-    assert_eq!(rt; written(alloc, layout.path("y")?)?.as_str(), "-");
+    assert_eq!(rt; after_unbind(alloc, &x, &y, &kind)?.as_str(), "IH OH");
     Ok(())
 }
 
-/// Binds a pattern so many times.
-fn bind_times<'a>(
-    layout: &mut Layout<'a>,
+/// A layout that begins with two patterns, the second of which is bound so many times.
+fn bound_times<'a>(
+    alloc: Global,
+    root: &'a Pattern,
     pattern: &'a Pattern,
     kind: &'a HlType,
     count: u32,
-) -> Result<(), AllocError>
-    ensures { OnOk result (length layout.new.bound ≡ length layout.old.bound + count) }
-{
-    'binds: for _ in 0..count {
+) -> Result<Layout<'a>, AllocError> {
+    let mut layout = Layout::new(alloc, root, kind)?;
+    for _ in 0..count {
         layout.bind(pattern, kind)?;
     }
-    Ok(())
+    Ok(layout)
 }
 
-/// Takes back so many.
-fn unbind_times(layout: &mut Layout<'_>, count: u32)
-    requires { count ≤ length layout.old.bound }
-{
-    'unbinds: for _ in 0..count {
-        layout.unbind();
+/// How long the path of a name is, and its last step; nothing where there is none.
+fn end_of(layout: &Layout, name: &str) -> Result<(usize, Option<Step>), AllocError> {
+    match layout.path(name)? {
+        Some(path) => Ok((path.len(), path.as_slice().last().copied())),
+        None => Ok((0, None)),
     }
-}
-
-/// How many drops a path has, where a take or nothing comes after them.
-fn drops(path: &Path) -> usize {
-    path.as_slice()
-        .iter()
-        .filter(|step| **step == Step::Drop)
-        .count()
 }
 
 #[test]
 fn binds_sixty_thousand(rt: HostRuntime) -> Result<(), Fail> {
     let alloc = rt.alloc();
-    let byte = HlType::UInt(8);
+    let kind = HlType::UInt(8);
     let x = named(alloc, "x")?;
-    let y = named(alloc, "y")?;
     let ignored = pattern(PatternForm::Ignore);
-    let mut layout = Layout::new(alloc, &x, &byte)?;
-    layout.bind(&y, &byte)?;
-    bind_times(&mut layout, &ignored, &byte, 60_000)?;
-    let path = layout.path("x")?.ok_or("no path")?;
-    assert_eq!(rt; (path.len(), drops(&path)), (60_001, 60_001));
-    let path = layout.path("y")?.ok_or("no path")?;
-    assert_eq!(rt; (path.len(), drops(&path)), (60_001, 60_000));
-    assert_eq!(rt; path.as_slice().last(), Some(&Step::Take));
-    unbind_times(&mut layout, 60_000);
-    assert_eq!(rt; written(alloc, layout.path("y")?)?.as_str(), "OH");
+    let layout = bound_times(alloc, &x, &ignored, &kind, 60_000)?;
+    assert_eq!(rt; end_of(&layout, "x")?, (60_000, Some(Step::Drop)));
     Ok(())
 }
 
@@ -146,28 +136,12 @@ fn deep_pattern(alloc: Global, name: &str, count: u32) -> Result<Pattern, AllocE
     Ok(inner)
 }
 
-/// The type of their values.
-fn deep_kind(alloc: Global, count: u32) -> Result<HlType, AllocError> {
-    let mut inner = HlType::UInt(8);
-    for _ in 0..count {
-        let mut parts = Sequence::new(alloc);
-        parts.push(inner)?;
-        parts.push(HlType::UInt(8))?;
-        inner = HlType::Tuple(parts);
-    }
-    Ok(inner)
-}
-
 #[test]
 fn binds_three_hundred_deep(rt: HostRuntime) -> Result<(), Fail> {
     let alloc = rt.alloc();
+    let kind = HlType::UInt(8);
     let deep = deep_pattern(alloc, "x", 300)?;
-    let kind = deep_kind(alloc, 300)?;
-    let mut layout = Layout::new(alloc, &deep, &kind)?;
-    let path = layout.path("x")?.ok_or("no path")?;
-    assert_eq!(rt; (path.len(), drops(&path)), (300, 0));
-    bind_times(&mut layout, &deep, &kind, 300)?;
-    let path = layout.path("x")?.ok_or("no path")?;
-    assert_eq!(rt; (path.len(), drops(&path)), (301, 0));
+    let layout = bound_times(alloc, &deep, &deep, &kind, 300)?;
+    assert_eq!(rt; end_of(&layout, "x")?, (301, Some(Step::Take)));
     Ok(())
 }

@@ -2,162 +2,155 @@
 
 use hl_lex::tokens;
 use hl_parse::parse;
-use hl_syntax::{Aliases, ExprForm, HlType, Item, Program, Statement};
-use hl_types::resolve;
+use hl_syntax::{ExprForm, HlType, Item, Program, Statement};
 use scope_layout::{Layout, Path, Step};
 use std::alloc::{AllocError, Global};
 use std::test::Fail;
 
-/// The `let`s, the outermost first, and names with their paths; a dash where there is none.
-type Row = (&'static str, &'static [(&'static str, &'static str)]);
+/// A function of `let`s, names, and their paths after these; a dash where there is none.
+type Row = (&'static str, &'static [&'static str], &'static str);
 
 /// Tuples of one part to nine.
 static TUPLES: [Row; 9] = [
-    ("let (a,): (u8,) = 0;", &[("a", "H")]),
-    ("let (a, b): (u8, u8) = 0;", &[("a", "OH"), ("b", "IH")]),
+    ("fn f() { let (a,): (u8,) = 0; }", &["a"], "H"),
+    ("fn f() { let (a, b): (u8, u8) = 0; }", &["a", "b"], "OH IH"),
     (
-        "let (a, b, c): (u8, u8, u8) = 0;",
-        &[("a", "OH"), ("b", "IOH"), ("c", "IIH")],
+        "fn f() { let (a, b, c): (u8, u8, u8) = 0; }",
+        &["a", "b", "c"],
+        "OH IOH IIH",
     ),
     (
-        "let (a, b, c, d): (u8, u8, u8, u8) = 0;",
-        &[("a", "OOH"), ("b", "OIH"), ("c", "IOH"), ("d", "IIH")],
+        "fn f() { let (a, b, c, d): (u8, u8, u8, u8) = 0; }",
+        &["a", "b", "c", "d"],
+        "OOH OIH IOH IIH",
     ),
     (
-        "let (a, b, c, d, e): (u8, u8, u8, u8, u8) = 0;",
-        &[
-            ("a", "OOH"),
-            ("b", "OIH"),
-            ("c", "IOH"),
-            ("d", "IIOH"),
-            ("e", "IIIH"),
-        ],
+        "fn f() { let (a, b, c, d, e): (u8, u8, u8, u8, u8) = 0; }",
+        &["a", "b", "c", "d", "e"],
+        "OOH OIH IOH IIOH IIIH",
     ),
     (
-        "let (a, b, c, d, e, f): (u8, u8, u8, u8, u8, u8) = 0;",
-        &[
-            ("a", "OOH"),
-            ("b", "OIOH"),
-            ("c", "OIIH"),
-            ("d", "IOH"),
-            ("e", "IIOH"),
-            ("f", "IIIH"),
-        ],
+        "fn f() { let (a, b, c, d, e, f): (u8, u8, u8, u8, u8, u8) = 0; }",
+        &["a", "b", "c", "d", "e", "f"],
+        "OOH OIOH OIIH IOH IIOH IIIH",
     ),
     (
-        "let (a, b, c, d, e, f, g): (u8, u8, u8, u8, u8, u8, u8) = 0;",
-        &[
-            ("a", "OOH"),
-            ("b", "OIOH"),
-            ("c", "OIIH"),
-            ("d", "IOOH"),
-            ("e", "IOIH"),
-            ("f", "IIOH"),
-            ("g", "IIIH"),
-        ],
+        "fn f() { let (a, b, c, d, e, f, g): (u8, u8, u8, u8, u8, u8, u8) = 0; }",
+        &["a", "b", "c", "d", "e", "f", "g"],
+        "OOH OIOH OIIH IOOH IOIH IIOH IIIH",
     ),
     (
-        "let (a, b, c, d, e, f, g, h): (u8, u8, u8, u8, u8, u8, u8, u8) = 0;",
-        &[
-            ("a", "OOOH"),
-            ("b", "OOIH"),
-            ("c", "OIOH"),
-            ("d", "OIIH"),
-            ("e", "IOOH"),
-            ("f", "IOIH"),
-            ("g", "IIOH"),
-            ("h", "IIIH"),
-        ],
+        "fn f() { let (a, b, c, d, e, f, g, h): (u8, u8, u8, u8, u8, u8, u8, u8) = 0; }",
+        &["a", "b", "c", "d", "e", "f", "g", "h"],
+        "OOOH OOIH OIOH OIIH IOOH IOIH IIOH IIIH",
     ),
     (
-        "let (a, b, c, d, e, f, g, h, i): (u8, u8, u8, u8, u8, u8, u8, u8, u8) = 0;",
-        &[
-            ("a", "OOOH"),
-            ("b", "OOIH"),
-            ("c", "OIOH"),
-            ("d", "OIIH"),
-            ("e", "IOOH"),
-            ("f", "IOIH"),
-            ("g", "IIOH"),
-            ("h", "IIIOH"),
-            ("i", "IIIIH"),
-        ],
+        "fn f() { let (a, b, c, d, e, f, g, h, i): (u8, u8, u8, u8, u8, u8, u8, u8, u8) = 0; }",
+        &["a", "b", "c", "d", "e", "f", "g", "h", "i"],
+        "OOOH OOIH OIOH OIIH IOOH IOIH IIOH IIIOH IIIIH",
     ),
 ];
 
 /// Patterns of other forms, and names that are bound again.
 static SCOPES: [Row; 13] = [
     (
-        "let (x, y): (u8, u8) = 0; let _: u8 = 0;",
-        &[("y", "IIH"), ("x", "IOH"), ("z", "-")],
+        "fn f() { let (x, y): (u8, u8) = 0; let _: u8 = 0; }",
+        &["y", "x", "z"],
+        "IIH IOH -",
     ),
-    ("let (): () = 0;", &[("x", "-")]),
-    ("let x: u8 = 0;", &[("x", "H"), ("y", "-")]),
-    ("let _: u8 = 0;", &[("_", "-")]),
-    ("let ((x,),): ((u8,),) = 0;", &[("x", "H")]),
+    ("fn f() { let (): () = 0; }", &["x"], "-"),
+    ("fn f() { let x: u8 = 0; }", &["x", "y"], "H -"),
+    ("fn f() { let _: u8 = 0; }", &["_"], "-"),
+    ("fn f() { let ((x,),): ((u8,),) = 0; }", &["x"], "H"),
     (
-        "let [a, b, c]: [u8; 3] = 0;",
-        &[("a", "OH"), ("b", "IOH"), ("c", "IIH")],
-    ),
-    (
-        "let [(a, b), (_, c)]: [(u8, u8); 2] = 0;",
-        &[("a", "OOH"), ("b", "OIH"), ("c", "IIH")],
+        "fn f() { let [a, b, c]: [u8; 3] = 0; }",
+        &["a", "b", "c"],
+        "OH IOH IIH",
     ),
     (
-        "let (a, (b, [c, d, e], _), f): (u8, (u8, [u8; 3], u8), u8) = 0;",
-        &[
-            ("a", "OH"),
-            ("b", "IOOH"),
-            ("c", "IOIOOH"),
-            ("d", "IOIOIOH"),
-            ("e", "IOIOIIH"),
-            ("f", "IIH"),
-        ],
+        "fn f() { let [(a, b), (_, c)]: [(u8, u8); 2] = 0; }",
+        &["a", "b", "c"],
+        "OOH OIH IIH",
     ),
     (
-        "let (x, y, x): (u8, u8, u8) = 0;",
-        &[("x", "OH"), ("y", "IOH")],
+        "fn f() { let (a, (b, [c, d, e], _), f): (u8, (u8, [u8; 3], u8), u8) = 0; }",
+        &["a", "b", "c", "d", "e", "f"],
+        "OH IOOH IOIOOH IOIOIOH IOIOIIH IIH",
     ),
     (
-        "let ((x, y), (y, x)): ((u8, u8), (u8, u8)) = 0;",
-        &[("x", "OOH"), ("y", "OIH")],
-    ),
-    ("let x: u8 = 0; let x: u8 = 0;", &[("x", "OH")]),
-    (
-        "let (x, y): (u8, u8) = 0; let (z, x): (u8, u8) = 0; let (y, _): (u8, u8) = 0;",
-        &[("x", "IOIH"), ("y", "OOH"), ("z", "IOOH"), ("w", "-")],
+        "fn f() { let (x, y, x): (u8, u8, u8) = 0; }",
+        &["x", "y"],
+        "OH IOH",
     ),
     (
-        "let a: u8 = 0; let b: u8 = 0; let c: u8 = 0; let d: u8 = 0;",
-        &[("a", "IIIH"), ("b", "IIOH"), ("c", "IOH"), ("d", "OH")],
+        "fn f() { let ((x, y), (y, x)): ((u8, u8), (u8, u8)) = 0; }",
+        &["x", "y"],
+        "OOH OIH",
+    ),
+    ("fn f() { let x: u8 = 0; let x: u8 = 0; }", &["x"], "OH"),
+    (
+        "fn f() { let (x, y): (u8, u8) = 0; let (z, x): (u8, u8) = 0; let (y, _): (u8, u8) = 0; }",
+        &["x", "y", "z", "w"],
+        "IOIH OOH IOOH -",
+    ),
+    (
+        "fn f() { let a: u8 = 0; let b: u8 = 0; let c: u8 = 0; let d: u8 = 0; }",
+        &["a", "b", "c", "d"],
+        "IIIH IIOH IOH OH",
     ),
 ];
 
-/// A path in letters.
-pub(crate) fn written(alloc: Global, path: Option<Path>) -> Result<String, AllocError> {
+/// A path in letters, after the others.
+fn write_path(texts: &mut String, path: Option<Path>) -> Result<(), AllocError> {
+    if !texts.is_empty() {
+        texts.push_str(" ")?;
+    }
     let Some(path) = path else {
-        return String::from_str(alloc, "-");
+        return texts.push_str("-");
     };
-    let mut text = String::new(alloc);
     for step in path.as_slice() {
-        text.push_str(match step {
+        texts.push_str(match step {
             Step::Take => "O",
             Step::Drop => "I",
         })?;
     }
-    text.push_str("H")?;
-    Ok(text)
+    texts.push_str("H")
 }
 
-/// A program of one function with these statements.
-pub(crate) fn program_of(alloc: Global, lets: &str) -> Result<Program, Fail> {
-    let text = format!(in alloc; "fn f() {{ {lets} }}")?;
-    let found = tokens(alloc, text.as_str())?;
+/// The paths of variables.
+pub(crate) fn paths_of(
+    alloc: Global,
+    layout: &Layout,
+    names: &[&str],
+) -> Result<String, AllocError> {
+    let mut texts = String::new(alloc);
+    for name in names {
+        write_path(&mut texts, layout.path(name)?)?;
+    }
+    Ok(texts)
+}
+
+/// The paths of bound witnesses.
+pub(crate) fn witness_paths_of(
+    alloc: Global,
+    layout: &Layout,
+    names: &[&str],
+) -> Result<String, AllocError> {
+    let mut texts = String::new(alloc);
+    for name in names {
+        write_path(&mut texts, layout.witness_path(name)?)?;
+    }
+    Ok(texts)
+}
+
+/// The tree of a program's text.
+fn program_of(alloc: Global, text: &str) -> Result<Program, Fail> {
+    let found = tokens(alloc, text)?;
     Ok(parse(alloc, found.as_slice(), text.len() as u64)?)
 }
 
-/// The statements of its function.
-pub(crate) fn statements(program: &Program) -> &[Statement] {
+/// The statements of its first function.
+fn statements(program: &Program) -> &[Statement] {
     let Some(Item::Function { body, .. }) = program.as_slice().first() else {
         return &[];
     };
@@ -167,60 +160,40 @@ pub(crate) fn statements(program: &Program) -> &[Statement] {
     }
 }
 
-/// The types of `let`s.
-pub(crate) fn kinds_of(alloc: Global, statements: &[Statement]) -> Result<Vec<HlType>, Fail> {
-    let aliases = Aliases::new(alloc);
-    let mut kinds = Vec::new(alloc);
-    for statement in statements {
-        if let Statement::Let { kind, .. } = statement {
-            kinds.push(resolve(alloc, kind, &aliases)?)?;
-        }
-    }
-    Ok(kinds)
-}
-
-/// Binds the pattern of a `let` at its type.
-fn bind_let<'a>(
-    layout: &mut Layout<'a>,
-    statement: &'a Statement,
-    kind: Option<&'a HlType>,
-) -> Result<(), Fail> {
-    let kind = kind.ok_or("no type")?;
-    match statement {
-        Statement::Let { pattern, .. } => Ok(layout.bind(pattern, kind)?),
-        Statement::Plain(_) => Err(Fail::from("no let")),
-    }
-}
-
-/// The layout after `let`s, of which the first begins the scope.
+/// The layout after `let`s, of which the first begins the scope. A path doesn't depend on types, so one stands for all.
 fn layout_of<'a>(
     alloc: Global,
     statements: &'a [Statement],
-    kinds: &'a [HlType],
+    kind: &'a HlType,
 ) -> Result<Layout<'a>, Fail> {
     let Some(Statement::Let { pattern, .. }) = statements.first() else {
         return Err(Fail::from("no let"));
     };
-    let mut layout = Layout::new(alloc, pattern, kinds.first().ok_or("no type")?)?;
+    let mut layout = Layout::new(alloc, pattern, kind)?;
     for place in 1..statements.len() {
-        bind_let(&mut layout, &statements[place], kinds.get(place))?;
+        if let Statement::Let { pattern, .. } = &statements[place] {
+            layout.bind(pattern, kind)?;
+        }
     }
     Ok(layout)
 }
 
-/// The names of rows that have another path, each with it.
+/// The paths of names after the `let`s of a text.
+fn paths_after(alloc: Global, text: &str, names: &[&str]) -> Result<String, Fail> {
+    let kind = HlType::UInt(8);
+    let program = program_of(alloc, text)?;
+    let layout = layout_of(alloc, statements(&program), &kind)?;
+    Ok(paths_of(alloc, &layout, names)?)
+}
+
+/// The texts of rows that have other paths, each with those that were found.
 fn wrong_paths(alloc: Global, rows: &[Row]) -> Result<String, Fail> {
     let mut wrong = String::new(alloc);
-    for (lets, paths) in rows.iter() {
-        let program = program_of(alloc, lets)?;
-        let statements = statements(&program);
-        let kinds = kinds_of(alloc, statements)?;
-        let layout = layout_of(alloc, statements, kinds.as_slice())?;
-        for (name, wanted) in paths.iter() {
-            let got = written(alloc, layout.path(name)?)?;
-            if got.as_str() != *wanted {
-                write!(wrong, "{got} to {name} after {lets}; ")?;
-            }
+    for (text, names, wanted) in rows {
+        let found = paths_after(alloc, text, names)?;
+        if found.as_str() != *wanted {
+            wrong.push_str(text)?;
+            wrong.push_str(found.as_str())?;
         }
     }
     Ok(wrong)
