@@ -29,8 +29,7 @@ impl Model for TypedProgram {
 
     ghost view = { λ found. record { functions = found.functions; witnesses = found.witnesses; edition = found.edition } };
 
-    ghost invariant =
-        { λ found. BreaksNothing (record { functions = found.functions; witnesses = found.witnesses; edition = found.edition }) };
+    ghost invariant = { λ found. BreaksNothing (record { functions = found.functions; witnesses = found.witnesses; edition = found.edition }) };
 }
 
 impl TypedProgram {
