@@ -25,7 +25,8 @@ LINES = {
     "type_table": "simplicity core_data indexmap",
     "cell_bits": "spelling simplicity",
     "term_core": "simplicity jets core_data word_math type_table indexmap",
-    "bit_codec": "spelling simplicity jets cell_bits word_math term_core",
+    "compact_codes": "spelling simplicity cell_bits core_data type_table",
+    "bit_codec": "spelling simplicity jets cell_bits word_math term_core compact_codes",
     "reading_bench": "simplicity cell_bits term_core bit_codec",
 }
 COUNTS = [131072, 262144, 524288, 1048576]

@@ -233,7 +233,8 @@ impl<
         requires nests { Nests self.now.depth (F.pre self.now.expr) (F.post self.now.expr) }
         requires first { IsSoundSide first.now }
         requires second { IsSoundSide second.now }
-        ensures gives { ChecksExpr (expr_in self.now e.now) (matched_type first.now second.now) Rule.K6 result body.old body.new }
+        ensures gives { ChecksExpr (expr_in self.now e.now) (matched_type first.now second.now)
+            Rule.K6 result body.old body.new }
         ensures scope { OnOk result (body.new.scope ≡ body.old.scope) }
     {
         let kind = matched_type(self.checker.alloc(), first, second)?;

@@ -30,7 +30,8 @@ impl<
         requires nests { Nests self.now.depth (F.pre self.now.expr) (F.post self.now.expr) }
         requires item { IsSound item.now }
         requires bound { IsTrue (is_bound bound) }
-        ensures gives { ChecksExpr (expr_in self.now list.now) (HlType.List item.now bound) Rule.K6 result body.old body.new }
+        ensures gives { ChecksExpr (expr_in self.now list.now) (HlType.List item.now bound)
+            Rule.K6 result body.old body.new }
         ensures scope { OnOk result (body.new.scope ≡ body.old.scope) }
     {
         let kind = list_type(self.checker.alloc(), item, bound)?;
@@ -48,7 +49,8 @@ impl<
         requires nests { Nests self.now.depth (F.pre self.now.expr) (F.post self.now.expr) }
         requires item { IsSound item.now }
         requires count { IsTrue (is_count count) }
-        ensures gives { ChecksExpr (expr_in self.now array.now) (HlType.Array item.now count) Rule.K6 result body.old body.new }
+        ensures gives { ChecksExpr (expr_in self.now array.now) (HlType.Array item.now count)
+            Rule.K6 result body.old body.new }
         ensures scope { OnOk result (body.new.scope ≡ body.old.scope) }
     {
         let kind = array_type(self.checker.alloc(), item, count)?;

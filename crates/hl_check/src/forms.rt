@@ -134,7 +134,8 @@ impl<
         requires nests { Nests self.now.depth (F.pre self.now.expr) (F.post self.now.expr) }
         requires left { IsSound left.now }
         requires right { IsSound right.now }
-        ensures gives { ChecksExpr (expr_in self.now e.now) (HlType.Either left.now right.now) Rule.K6 result body.old body.new }
+        ensures gives { ChecksExpr (expr_in self.now e.now) (HlType.Either left.now right.now)
+            Rule.K6 result body.old body.new }
         ensures scope { OnOk result (body.new.scope ≡ body.old.scope) }
     {
         let kind = either_type(self.checker.alloc(), left, right)?;

@@ -117,13 +117,15 @@ impl Files for MemoryFiles {
         ensures reads { read_count self.new ≡ raised (read_count self.old) }
 
         ensures fails { OnFailed result (Contains (failing_calls self.old) (read_count self.new)) }
-        ensures planned { Contains (failing_calls self.old) (read_count self.new) → IsErrOf result FileRefusal.Failed }
+        ensures planned { Contains (failing_calls self.old) (read_count self.new) →
+            IsErrOf result FileRefusal.Failed }
         ensures fault { OnFailed result (fault_count self.new ≡ raised (fault_count self.old)) }
         ensures no_fault { UnlessFailed result (fault_count self.new ≡ fault_count self.old) }
         ensures rises { OnFailed result (HasRisen (fault_count self.old) (fault_count self.new)) }
         ensures never_fall { fault_count self.old ≤ fault_count self.new }
 
-        ensures bytes { IfOk result (λ file. (file_of self.old name.now ≡ Some file.items) × (vec_len file ≤ limit)) }
+        ensures bytes { IfOk result (λ file.
+            (file_of self.old name.now ≡ Some file.items) × (vec_len file ≤ limit)) }
         ensures not_held { OnNotHeld result (file_of self.old name.now ≡ None) }
         ensures too_long { OnTooLong result (IsSomeAnd (file_of self.old name.now) (λ bytes. limit < length bytes)) }
     {

@@ -3,7 +3,8 @@ use Rattle.std.proofs.Common.{◌≡◌, ◌==◌, ℕ, suc, ◌+◌, true, fals
 use Rattle.std.proofs.Math.Numerals.{one-add}
 use Rattle.std.specs.List.{list_all, prefix_len}
 use Rattle.std.proofs.lemmas.Bool.{cond-true, and_parts, and_from, or_cases, or_left, eqb-true, false_from_ne_true}
-use Rattle.small_source.specs.Names.{is_blank, is_word_byte, is_name_start, is_name, keywords, is_among, names_variable, reserved_for_variables, names_function, reserved_for_functions}
+use Rattle.small_source.specs.Names.{is_blank, is_word_byte, is_name_start, is_name, keywords, is_among, names_variable, names_function}
+use Rattle.hl_rules.specs.Names.{variable_words, function_words, main_name}
 use Rattle.small_source.specs.Small.{Small, SmallBody, Named, Paired, Token, Text, EndsBefore, type_tokens, body_tokens, more_parameter_tokens, parameters_tokens, function_tokens, body_names_fit}
 use Rattle.small_source.specs.Tokens.{begins_with}
 use Rattle.small_source.proofs.Written.{IsCut, AllCut, Stops}
@@ -51,7 +52,7 @@ name_cut (c ∷ w) h =
     word_cut c w (or_left _ _ a.0) b.0
 
 variable_cut : (w : List ℕ) → names_variable w ≡ true → IsCut w
-variable_cut w h = name_cut w (and_parts (is_name w) (not (is_among reserved_for_variables w)) h).0
+variable_cut w h = name_cut w (and_parts (is_name w) (not (is_among variable_words w)) h).0
 
 cut_u8 : IsCut (codes "u8")
 cut_u8 = word_cut 117 (56 ∷ []) refl refl
@@ -108,5 +109,5 @@ parameters_cut (name ∷ names) h =
 
 pub function_cut : (asked : List ℕ) (f : Small) → names_function asked ≡ true → list_all names_variable f.parameters ≡ true → body_names_fit f.body ≡ true → AllCut (function_tokens asked f)
 function_cut asked f named variables fit =
-    let name = name_cut asked (and_parts (is_name asked) (not (is_among reserved_for_functions asked) && not (bytes_eq asked (codes "main"))) named).0 in
+    let name = name_cut asked (and_parts (is_name asked) (not (is_among function_words asked) && not (bytes_eq asked main_name)) named).0 in
     (cut_fn, (name, (cut_open, AllCut-append (parameters_tokens f.parameters) _ (parameters_cut f.parameters variables) (cut_close, (cut_arrow, AllCut-append (type_tokens f.body) _ (type_cut f.body) (cut_brace, AllCut-append (body_tokens f.body) _ (body_cut f.body fit) (cut_end, tt)))))))

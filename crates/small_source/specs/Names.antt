@@ -1,6 +1,8 @@
 -- The words of a source, and which of them may name something.
 use Rattle.std.specs.Prelude.{ℕ, Bool, false, not, ◌&&◌, ◌||◌, ◌==◌, nat_le, List, [], ◌∷◌, codes, bytes_eq}
 use Rattle.std.specs.List.{list_any, list_all}
+use Rattle.simplicityhl.specs.Grammar as grammar
+use Rattle.hl_rules.specs.Names.{variable_words, function_words, main_name}
 
 -- a space, a tab, a carriage return or a line feed
 abbrev pub is_blank : ℕ → Bool
@@ -14,19 +16,9 @@ is_name_start c = nat_le 65 c && nat_le c 90 || (nat_le 97 c && nat_le c 122 || 
 abbrev pub is_word_byte : ℕ → Bool
 is_word_byte c = is_name_start c || nat_le 48 c && nat_le c 57
 
--- the words of the language that name nothing
+-- the words that name nothing: the language's, and the pattern `_`
 abbrev pub keywords : List (List ℕ)
-keywords = codes "_" ∷ codes "fn" ∷ codes "type" ∷ codes "let" ∷ codes "match" ∷ []
-
--- the names that no variable may have
-abbrev pub reserved_for_variables : List (List ℕ)
-reserved_for_variables =
-    codes "true" ∷ codes "false" ∷ codes "None" ∷ codes "Left" ∷ codes "Right" ∷ codes "Some" ∷ []
-
--- the names that no function may have
-abbrev pub reserved_for_functions : List (List ℕ)
-reserved_for_functions =
-    codes "Left" ∷ codes "Right" ∷ codes "Some" ∷ codes "unwrap" ∷ codes "unwrap_left" ∷ codes "unwrap_right" ∷ codes "is_none" ∷ codes "fold" ∷ codes "array_fold" ∷ codes "for_while" ∷ []
+keywords = codes "_" ∷ grammar.keywords
 
 -- whether a word is one of a list
 abbrev pub is_among : List (List ℕ) → List ℕ → Bool
@@ -39,8 +31,8 @@ is_name (c ∷ more) = is_name_start c && (list_all is_word_byte more && not (is
 
 -- whether a word may name a variable
 abbrev pub names_variable : List ℕ → Bool
-names_variable word = is_name word && not (is_among reserved_for_variables word)
+names_variable word = is_name word && not (is_among variable_words word)
 
 -- whether a word may name a function that is asked for by its name and isn't `main`
 abbrev pub names_function : List ℕ → Bool
-names_function word = is_name word && (not (is_among reserved_for_functions word) && not (bytes_eq word (codes "main")))
+names_function word = is_name word && (not (is_among function_words word) && not (bytes_eq word main_name))

@@ -1,6 +1,7 @@
 ghost use Rattle.std.specs.Prelude.{◌≡◌, bytes_eq};
 ghost use Rattle.std.specs.List.{list_all, list_any};
-ghost use Rattle.small_source.specs.Names.{is_blank, is_name_start, is_word_byte, keywords, is_among, is_name, names_variable, names_function, reserved_for_variables, reserved_for_functions};
+ghost use Rattle.small_source.specs.Names.{is_blank, is_name_start, is_word_byte, keywords, is_among, is_name, names_variable, names_function};
+ghost use Rattle.hl_rules.specs.Names.{variable_words, function_words};
 
 pub(crate) fn is_blank(byte: u8) -> bool
     ensures { result ≡ is_blank byte }
@@ -51,13 +52,13 @@ fn is_keyword(word: &[u8]) -> bool
 }
 
 fn is_reserved_for_variables(word: &[u8]) -> bool
-    ensures { result ≡ is_among reserved_for_variables word.now }
+    ensures { result ≡ is_among variable_words word.now }
 {
     is_among(RESERVED_FOR_VARIABLES.as_slice(), word)
 }
 
 fn is_reserved_for_functions(word: &[u8]) -> bool
-    ensures { result ≡ is_among reserved_for_functions word.now }
+    ensures { result ≡ is_among function_words word.now }
 {
     is_among(RESERVED_FOR_FUNCTIONS.as_slice(), word)
 }

@@ -54,7 +54,8 @@ impl TermTable {
         requires stands { StandsOver types.now self.old }
         requires follows { MayFollow types.now (terms types.now self.old) (row_of node source target) }
         ensures ok { IfOk result (λ id.
-            MeansTerm types.now self.new id (row_term types.now (terms types.now self.old) (row_of node source target))) }
+            MeansTerm types.now self.new id
+            (row_term types.now (terms types.now self.old) (row_of node source target))) }
         ensures row { IfOk result (λ id. slice_get self.new id ≡ Some (row_of node source target)) }
         ensures found { (id : ℕ) → IsFoundAt self.old id (row_of node source target) →
             (result ≡ Ok id) × (self.new ≡ self.old) }
