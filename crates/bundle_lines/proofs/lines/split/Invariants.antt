@@ -1,0 +1,7 @@
+use Rattle.std.proofs.Common.{◌≡◌, map}
+use Rattle.std.specs.Prelude.{option_map}
+use Rattle.bundle_lines.proofs.Cut.{IsCut}
+use Rattle.bundle_lines.proofs.lines.split.Given as goal
+
+abbrev pub invariant-parts : goal.invariant-parts
+invariant-parts l = IsCut (map (λ part. part.now) l.yielded) l.lines (option_map (λ part. part.now) l.open)
