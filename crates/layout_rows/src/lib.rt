@@ -6,3 +6,5 @@
 mod many;
 #[cfg(test)]
 mod paths;
+#[cfg(test)]
+mod patterns;

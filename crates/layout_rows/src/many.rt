@@ -1,147 +1,124 @@
 //! Witnesses, what is taken back, and many binds. A path doesn't depend on types, so one stands for all.
 
-use crate::paths::{paths_of, witness_paths_of};
-use hl_syntax::{HlType, Pattern, PatternForm, Patterns, Span, TypedName};
+use crate::paths::has_paths;
+use crate::patterns::{Part, expect, is_written, patterns};
+use hl_syntax::{HlType, Pattern, TypedName};
 use lists::Text;
-use scope_layout::{Layout, Step, WitnessNames};
+use scope_layout::{Layout, WitnessNames};
 use std::alloc::{AllocError, Global};
 use std::test::Fail;
 
-/// A pattern that no text has.
-fn pattern(form: PatternForm) -> Pattern {
-    Pattern {
-        form,
-        span: Span { start: 0, end: 0 },
-    }
-}
-
-/// The pattern that is a name.
-fn named(alloc: Global, name: &str) -> Result<Pattern, AllocError> {
-    Ok(pattern(PatternForm::Name(Text::from_str(alloc, name)?)))
-}
-
-/// Witnesses of these names, all numbers of eight bits.
+/// Witnesses of these names.
 fn witnesses(alloc: Global, names: &[&str]) -> Result<WitnessNames, AllocError> {
     let mut all = WitnessNames::new(alloc);
     for name in names {
         let name = Text::from_str(alloc, name)?;
         all.push(TypedName {
             name,
-            kind: HlType::UInt(8),
+            kind: HlType::Bool,
         })?;
     }
     Ok(all)
 }
 
-/// A scope of one name, with witnesses and another name bound before it.
-fn with_witnesses<'a>(
+/// Whether witnesses and variables have their paths, where `x` begins the scope, witnesses are bound and then `w`.
+fn are_apart(
     alloc: Global,
-    x: &'a Pattern,
-    bound: &'a WitnessNames,
-    w: &'a Pattern,
-    kind: &'a HlType,
-) -> Result<Layout<'a>, AllocError> {
+    names: &[Pattern],
+    bound: &WitnessNames,
+    kind: &HlType,
+) -> Result<bool, AllocError> {
+    let [x, w] = names else {
+        return Ok(false);
+    };
     let mut layout = Layout::new(alloc, x, kind)?;
     layout.bind_witnesses(bound)?;
     layout.bind(w, kind)?;
-    Ok(layout)
+    for (name, letters) in [("x", "IOOH"), ("w", "IOIOH"), ("v", "IOIIH"), ("y", "-")] {
+        if !is_written(layout.witness_path(name)?, letters) {
+            return Ok(false);
+        }
+    }
+    has_paths(&layout, &[("x", "IIH"), ("w", "OH"), ("v", "-")])
 }
 
-#[test]
-fn witnesses_beside_variables(rt: HostRuntime) -> Result<(), Fail> {
-    let alloc = rt.alloc();
-    let kind = HlType::UInt(8);
-    let x = named(alloc, "x")?;
-    let bound = witnesses(alloc, &["x", "w", "v"])?;
-    let w = named(alloc, "w")?;
-    let layout = with_witnesses(alloc, &x, &bound, &w, &kind)?;
-    assert_eq!(rt;
-        paths_of(alloc, &layout, &["x", "w", "v"])?.as_str(),
-        "IIH OH -"
-    );
-    assert_eq!(rt;
-        witness_paths_of(alloc, &layout, &["x", "w", "v", "y"])?.as_str(),
-        "IOOH IOIOH IOIIH -"
-    );
-    Ok(())
-}
-
-/// The paths of two names after both are bound before the second, and the last is taken back.
-fn after_unbind(
-    alloc: Global,
-    x: &Pattern,
-    y: &Pattern,
-    kind: &HlType,
-) -> Result<String, AllocError> {
+/// Whether `x` and `y` have the paths as after they were bound, where `x` is bound again and taken back.
+fn is_taken_back(alloc: Global, names: &[Pattern], kind: &HlType) -> Result<bool, AllocError> {
+    let [x, y] = names else {
+        return Ok(false);
+    };
     let mut layout = Layout::new(alloc, x, kind)?;
     layout.bind(y, kind)?;
     layout.bind(x, kind)?;
     layout.unbind();
-    paths_of(alloc, &layout, &["x", "y"])
+    has_paths(&layout, &[("x", "IH"), ("y", "OH")])
 }
 
 #[test]
-fn takes_back_the_last(rt: HostRuntime) -> Result<(), Fail> {
-    let alloc = rt.alloc();
-    let kind = HlType::UInt(8);
-    let x = named(alloc, "x")?;
-    let y = named(alloc, "y")?;
-    assert_eq!(rt; after_unbind(alloc, &x, &y, &kind)?.as_str(), "IH OH");
-    Ok(())
+fn keeps_and_takes_back(rt: HostRuntime) -> Result<(), Fail> {
+    let kind = HlType::Bool;
+    let names = patterns(rt.alloc(), &[Part::Name("x"), Part::Name("w")])?;
+    let bound = witnesses(rt.alloc(), &["x", "w", "v"])?;
+    expect(
+        are_apart(rt.alloc(), names.as_slice(), &bound, &kind)?,
+        "witnesses",
+    )?;
+    let names = patterns(rt.alloc(), &[Part::Name("x"), Part::Name("y")])?;
+    expect(
+        is_taken_back(rt.alloc(), names.as_slice(), &kind)?,
+        "taken back",
+    )
 }
 
-/// A layout that begins with two patterns, the second of which is bound so many times.
-fn bound_times<'a>(
+/// How long the path of a name is after the first of two patterns begins the scope, the second is bound so many times
+/// and so many are taken back; nothing where there is none.
+fn length_after(
     alloc: Global,
-    root: &'a Pattern,
-    pattern: &'a Pattern,
-    kind: &'a HlType,
-    count: u32,
-) -> Result<Layout<'a>, AllocError> {
-    let mut layout = Layout::new(alloc, root, kind)?;
-    for _ in 0..count {
-        layout.bind(pattern, kind)?;
+    patterns: &[Pattern],
+    kind: &HlType,
+    bound: u32,
+    unbound: u32,
+) -> Result<usize, AllocError> {
+    let [first, second] = patterns else {
+        return Ok(0);
+    };
+    let mut layout = Layout::new(alloc, first, kind)?;
+    for _ in 0..bound {
+        layout.bind(second, kind)?;
     }
-    Ok(layout)
+    for _ in 0..unbound {
+        layout.unbind();
+    }
+    Ok(layout.path("x")?.map_or(0, |path| path.len()))
 }
 
-/// How long the path of a name is, and its last step; nothing where there is none.
-fn end_of(layout: &Layout, name: &str) -> Result<(usize, Option<Step>), AllocError> {
-    match layout.path(name)? {
-        Some(path) => Ok((path.len(), path.as_slice().last().copied())),
-        None => Ok((0, None)),
+/// A pattern without a name, and one with a name at the left of so many pairs in one another.
+fn deep_parts(alloc: Global, count: u32) -> Result<Vec<Part>, AllocError> {
+    let mut parts = Vec::new(alloc);
+    parts.push(Part::Ignored)?;
+    parts.push(Part::Name("x"))?;
+    for _ in 0..count {
+        parts.push(Part::Ignored)?;
+        parts.push(Part::Tuple(2))?;
     }
+    Ok(parts)
 }
 
 #[test]
-fn binds_sixty_thousand(rt: HostRuntime) -> Result<(), Fail> {
-    let alloc = rt.alloc();
-    let kind = HlType::UInt(8);
-    let x = named(alloc, "x")?;
-    let ignored = pattern(PatternForm::Ignore);
-    let layout = bound_times(alloc, &x, &ignored, &kind, 60_000)?;
-    assert_eq!(rt; end_of(&layout, "x")?, (60_000, Some(Step::Drop)));
-    Ok(())
-}
-
-/// A name at the left of so many pairs in one another.
-fn deep_pattern(alloc: Global, name: &str, count: u32) -> Result<Pattern, AllocError> {
-    let mut inner = named(alloc, name)?;
-    for _ in 0..count {
-        let mut parts = Patterns::new(alloc);
-        parts.push(inner)?;
-        parts.push(pattern(PatternForm::Ignore))?;
-        inner = pattern(PatternForm::Tuple(parts));
-    }
-    Ok(inner)
+fn binds_many(rt: HostRuntime) -> Result<(), Fail> {
+    let kind = HlType::Bool;
+    let flat = patterns(rt.alloc(), &[Part::Name("x"), Part::Ignored])?;
+    let length = length_after(rt.alloc(), flat.as_slice(), &kind, 60_000, 0)?;
+    expect(length == 60_000, "60,000 binds")?;
+    let length = length_after(rt.alloc(), flat.as_slice(), &kind, 60_000, 60_000)?;
+    expect(length == 0, "60,000 binds taken back")
 }
 
 #[test]
-fn binds_three_hundred_deep(rt: HostRuntime) -> Result<(), Fail> {
-    let alloc = rt.alloc();
-    let kind = HlType::UInt(8);
-    let deep = deep_pattern(alloc, "x", 300)?;
-    let layout = bound_times(alloc, &deep, &deep, &kind, 300)?;
-    assert_eq!(rt; end_of(&layout, "x")?, (301, Some(Step::Take)));
-    Ok(())
+fn binds_deep(rt: HostRuntime) -> Result<(), Fail> {
+    let kind = HlType::Bool;
+    let parts = deep_parts(rt.alloc(), 300)?;
+    let deep = patterns(rt.alloc(), parts.as_slice())?;
+    let length = length_after(rt.alloc(), deep.as_slice(), &kind, 300, 0)?;
+    expect(length == 301, "300 deep, 300 times")
 }

@@ -1,212 +1,282 @@
-//! The `let`s of a block, and the paths of names after them. O is a take, I a drop, H the input itself.
+//! The `let`s of a block, and the paths of names after them.
 
-use hl_lex::tokens;
-use hl_parse::parse;
-use hl_syntax::{ExprForm, HlType, Item, Program, Statement};
-use scope_layout::{Layout, Path, Step};
+use crate::patterns::{Part, expect, is_written, patterns};
+use Part::{Array, Ignored, Name, Tuple};
+use hl_syntax::{HlType, Pattern};
+use scope_layout::Layout;
 use std::alloc::{AllocError, Global};
 use std::test::Fail;
 
-/// A function of `let`s, names, and their paths after these; a dash where there is none.
-type Row = (&'static str, &'static [&'static str], &'static str);
+/// The patterns that are bound one after the other, and names with their paths after these.
+type Row = (
+    &'static str,
+    &'static [Part],
+    &'static [(&'static str, &'static str)],
+);
 
-/// Tuples of one part to nine.
-static TUPLES: [Row; 9] = [
-    ("fn f() { let (a,): (u8,) = 0; }", &["a"], "H"),
-    ("fn f() { let (a, b): (u8, u8) = 0; }", &["a", "b"], "OH IH"),
+/// Tuples of one part to nine, other forms, and names that are bound again.
+static ROWS: [Row; 22] = [
+    ("(a,)", &[Name("a"), Tuple(1)], &[("a", "H")]),
     (
-        "fn f() { let (a, b, c): (u8, u8, u8) = 0; }",
-        &["a", "b", "c"],
-        "OH IOH IIH",
+        "(a, b)",
+        &[Name("a"), Name("b"), Tuple(2)],
+        &[("a", "OH"), ("b", "IH")],
     ),
     (
-        "fn f() { let (a, b, c, d): (u8, u8, u8, u8) = 0; }",
-        &["a", "b", "c", "d"],
-        "OOH OIH IOH IIH",
+        "(a, b, c)",
+        &[Name("a"), Name("b"), Name("c"), Tuple(3)],
+        &[("a", "OH"), ("b", "IOH"), ("c", "IIH")],
     ),
     (
-        "fn f() { let (a, b, c, d, e): (u8, u8, u8, u8, u8) = 0; }",
-        &["a", "b", "c", "d", "e"],
-        "OOH OIH IOH IIOH IIIH",
+        "(a, b, c, d)",
+        &[Name("a"), Name("b"), Name("c"), Name("d"), Tuple(4)],
+        &[("a", "OOH"), ("b", "OIH"), ("c", "IOH"), ("d", "IIH")],
     ),
     (
-        "fn f() { let (a, b, c, d, e, f): (u8, u8, u8, u8, u8, u8) = 0; }",
-        &["a", "b", "c", "d", "e", "f"],
-        "OOH OIOH OIIH IOH IIOH IIIH",
+        "(a, b, c, d, e)",
+        &[
+            Name("a"),
+            Name("b"),
+            Name("c"),
+            Name("d"),
+            Name("e"),
+            Tuple(5),
+        ],
+        &[
+            ("a", "OOH"),
+            ("b", "OIH"),
+            ("c", "IOH"),
+            ("d", "IIOH"),
+            ("e", "IIIH"),
+        ],
     ),
     (
-        "fn f() { let (a, b, c, d, e, f, g): (u8, u8, u8, u8, u8, u8, u8) = 0; }",
-        &["a", "b", "c", "d", "e", "f", "g"],
-        "OOH OIOH OIIH IOOH IOIH IIOH IIIH",
+        "(a, b, c, d, e, f)",
+        &[
+            Name("a"),
+            Name("b"),
+            Name("c"),
+            Name("d"),
+            Name("e"),
+            Name("f"),
+            Tuple(6),
+        ],
+        &[
+            ("a", "OOH"),
+            ("b", "OIOH"),
+            ("c", "OIIH"),
+            ("d", "IOH"),
+            ("e", "IIOH"),
+            ("f", "IIIH"),
+        ],
     ),
     (
-        "fn f() { let (a, b, c, d, e, f, g, h): (u8, u8, u8, u8, u8, u8, u8, u8) = 0; }",
-        &["a", "b", "c", "d", "e", "f", "g", "h"],
-        "OOOH OOIH OIOH OIIH IOOH IOIH IIOH IIIH",
+        "(a, b, c, d, e, f, g)",
+        &[
+            Name("a"),
+            Name("b"),
+            Name("c"),
+            Name("d"),
+            Name("e"),
+            Name("f"),
+            Name("g"),
+            Tuple(7),
+        ],
+        &[
+            ("a", "OOH"),
+            ("b", "OIOH"),
+            ("c", "OIIH"),
+            ("d", "IOOH"),
+            ("e", "IOIH"),
+            ("f", "IIOH"),
+            ("g", "IIIH"),
+        ],
     ),
     (
-        "fn f() { let (a, b, c, d, e, f, g, h, i): (u8, u8, u8, u8, u8, u8, u8, u8, u8) = 0; }",
-        &["a", "b", "c", "d", "e", "f", "g", "h", "i"],
-        "OOOH OOIH OIOH OIIH IOOH IOIH IIOH IIIOH IIIIH",
+        "(a, b, c, d, e, f, g, h)",
+        &[
+            Name("a"),
+            Name("b"),
+            Name("c"),
+            Name("d"),
+            Name("e"),
+            Name("f"),
+            Name("g"),
+            Name("h"),
+            Tuple(8),
+        ],
+        &[
+            ("a", "OOOH"),
+            ("b", "OOIH"),
+            ("c", "OIOH"),
+            ("d", "OIIH"),
+            ("e", "IOOH"),
+            ("f", "IOIH"),
+            ("g", "IIOH"),
+            ("h", "IIIH"),
+        ],
+    ),
+    (
+        "(a, b, c, d, e, f, g, h, i)",
+        &[
+            Name("a"),
+            Name("b"),
+            Name("c"),
+            Name("d"),
+            Name("e"),
+            Name("f"),
+            Name("g"),
+            Name("h"),
+            Name("i"),
+            Tuple(9),
+        ],
+        &[
+            ("a", "OOOH"),
+            ("b", "OOIH"),
+            ("c", "OIOH"),
+            ("d", "OIIH"),
+            ("e", "IOOH"),
+            ("f", "IOIH"),
+            ("g", "IIOH"),
+            ("h", "IIIOH"),
+            ("i", "IIIIH"),
+        ],
+    ),
+    (
+        "(x, y), then _",
+        &[Name("x"), Name("y"), Tuple(2), Ignored],
+        &[("y", "IIH"), ("x", "IOH"), ("z", "-")],
+    ),
+    ("()", &[Tuple(0)], &[("x", "-")]),
+    ("x", &[Name("x")], &[("x", "H"), ("y", "-")]),
+    ("_", &[Ignored], &[("_", "-")]),
+    ("((x,),)", &[Name("x"), Tuple(1), Tuple(1)], &[("x", "H")]),
+    (
+        "[a, b, c]",
+        &[Name("a"), Name("b"), Name("c"), Array(3)],
+        &[("a", "OH"), ("b", "IOH"), ("c", "IIH")],
+    ),
+    (
+        "[(a, b), (_, c)]",
+        &[
+            Name("a"),
+            Name("b"),
+            Tuple(2),
+            Ignored,
+            Name("c"),
+            Tuple(2),
+            Array(2),
+        ],
+        &[("a", "OOH"), ("b", "OIH"), ("c", "IIH")],
+    ),
+    (
+        "(a, (b, [c, d, e], _), f)",
+        &[
+            Name("a"),
+            Name("b"),
+            Name("c"),
+            Name("d"),
+            Name("e"),
+            Array(3),
+            Ignored,
+            Tuple(3),
+            Name("f"),
+            Tuple(3),
+        ],
+        &[
+            ("a", "OH"),
+            ("b", "IOOH"),
+            ("c", "IOIOOH"),
+            ("d", "IOIOIOH"),
+            ("e", "IOIOIIH"),
+            ("f", "IIH"),
+        ],
+    ),
+    (
+        "(x, y, x)",
+        &[Name("x"), Name("y"), Name("x"), Tuple(3)],
+        &[("x", "OH"), ("y", "IOH")],
+    ),
+    (
+        "((x, y), (y, x))",
+        &[
+            Name("x"),
+            Name("y"),
+            Tuple(2),
+            Name("y"),
+            Name("x"),
+            Tuple(2),
+            Tuple(2),
+        ],
+        &[("x", "OOH"), ("y", "OIH")],
+    ),
+    ("x, then x", &[Name("x"), Name("x")], &[("x", "OH")]),
+    (
+        "(x, y), then (z, x), then (y, _)",
+        &[
+            Name("x"),
+            Name("y"),
+            Tuple(2),
+            Name("z"),
+            Name("x"),
+            Tuple(2),
+            Name("y"),
+            Ignored,
+            Tuple(2),
+        ],
+        &[("x", "IOIH"), ("y", "OOH"), ("z", "IOOH"), ("w", "-")],
+    ),
+    (
+        "a, then b, then c, then d",
+        &[Name("a"), Name("b"), Name("c"), Name("d")],
+        &[("a", "IIIH"), ("b", "IIOH"), ("c", "IOH"), ("d", "OH")],
     ),
 ];
 
-/// Patterns of other forms, and names that are bound again.
-static SCOPES: [Row; 13] = [
-    (
-        "fn f() { let (x, y): (u8, u8) = 0; let _: u8 = 0; }",
-        &["y", "x", "z"],
-        "IIH IOH -",
-    ),
-    ("fn f() { let (): () = 0; }", &["x"], "-"),
-    ("fn f() { let x: u8 = 0; }", &["x", "y"], "H -"),
-    ("fn f() { let _: u8 = 0; }", &["_"], "-"),
-    ("fn f() { let ((x,),): ((u8,),) = 0; }", &["x"], "H"),
-    (
-        "fn f() { let [a, b, c]: [u8; 3] = 0; }",
-        &["a", "b", "c"],
-        "OH IOH IIH",
-    ),
-    (
-        "fn f() { let [(a, b), (_, c)]: [(u8, u8); 2] = 0; }",
-        &["a", "b", "c"],
-        "OOH OIH IIH",
-    ),
-    (
-        "fn f() { let (a, (b, [c, d, e], _), f): (u8, (u8, [u8; 3], u8), u8) = 0; }",
-        &["a", "b", "c", "d", "e", "f"],
-        "OH IOOH IOIOOH IOIOIOH IOIOIIH IIH",
-    ),
-    (
-        "fn f() { let (x, y, x): (u8, u8, u8) = 0; }",
-        &["x", "y"],
-        "OH IOH",
-    ),
-    (
-        "fn f() { let ((x, y), (y, x)): ((u8, u8), (u8, u8)) = 0; }",
-        &["x", "y"],
-        "OOH OIH",
-    ),
-    ("fn f() { let x: u8 = 0; let x: u8 = 0; }", &["x"], "OH"),
-    (
-        "fn f() { let (x, y): (u8, u8) = 0; let (z, x): (u8, u8) = 0; let (y, _): (u8, u8) = 0; }",
-        &["x", "y", "z", "w"],
-        "IOIH OOH IOOH -",
-    ),
-    (
-        "fn f() { let a: u8 = 0; let b: u8 = 0; let c: u8 = 0; let d: u8 = 0; }",
-        &["a", "b", "c", "d"],
-        "IIIH IIOH IOH OH",
-    ),
-];
-
-/// A path in letters, after the others.
-fn write_path(texts: &mut String, path: Option<Path>) -> Result<(), AllocError> {
-    if !texts.is_empty() {
-        texts.push_str(" ")?;
-    }
-    let Some(path) = path else {
-        return texts.push_str("-");
-    };
-    for step in path.as_slice() {
-        texts.push_str(match step {
-            Step::Take => "O",
-            Step::Drop => "I",
-        })?;
-    }
-    texts.push_str("H")
-}
-
-/// The paths of variables.
-pub(crate) fn paths_of(
-    alloc: Global,
-    layout: &Layout,
-    names: &[&str],
-) -> Result<String, AllocError> {
-    let mut texts = String::new(alloc);
-    for name in names {
-        write_path(&mut texts, layout.path(name)?)?;
-    }
-    Ok(texts)
-}
-
-/// The paths of bound witnesses.
-pub(crate) fn witness_paths_of(
-    alloc: Global,
-    layout: &Layout,
-    names: &[&str],
-) -> Result<String, AllocError> {
-    let mut texts = String::new(alloc);
-    for name in names {
-        write_path(&mut texts, layout.witness_path(name)?)?;
-    }
-    Ok(texts)
-}
-
-/// The tree of a program's text.
-fn program_of(alloc: Global, text: &str) -> Result<Program, Fail> {
-    let found = tokens(alloc, text)?;
-    Ok(parse(alloc, found.as_slice(), text.len() as u64)?)
-}
-
-/// The statements of its first function.
-fn statements(program: &Program) -> &[Statement] {
-    let Some(Item::Function { body, .. }) = program.as_slice().first() else {
-        return &[];
-    };
-    match &body.form {
-        ExprForm::Block(statements, _) => statements.as_slice(),
-        _ => &[],
-    }
-}
-
-/// The layout after `let`s, of which the first begins the scope. A path doesn't depend on types, so one stands for all.
+/// The layout after these patterns, of which the first begins the scope. A path doesn't depend on types, so one stands
+/// for all.
 fn layout_of<'a>(
     alloc: Global,
-    statements: &'a [Statement],
+    patterns: &'a [Pattern],
     kind: &'a HlType,
-) -> Result<Layout<'a>, Fail> {
-    let Some(Statement::Let { pattern, .. }) = statements.first() else {
-        return Err(Fail::from("no let"));
+) -> Result<Option<Layout<'a>>, AllocError> {
+    let Some((first, others)) = patterns.split_first() else {
+        return Ok(None);
     };
-    let mut layout = Layout::new(alloc, pattern, kind)?;
-    for place in 1..statements.len() {
-        if let Statement::Let { pattern, .. } = &statements[place] {
-            layout.bind(pattern, kind)?;
-        }
+    let mut layout = Layout::new(alloc, first, kind)?;
+    for pattern in others {
+        layout.bind(pattern, kind)?;
     }
-    Ok(layout)
+    Ok(Some(layout))
 }
 
-/// The paths of names after the `let`s of a text.
-fn paths_after(alloc: Global, text: &str, names: &[&str]) -> Result<String, Fail> {
-    let kind = HlType::UInt(8);
-    let program = program_of(alloc, text)?;
-    let layout = layout_of(alloc, statements(&program), &kind)?;
-    Ok(paths_of(alloc, &layout, names)?)
-}
-
-/// The texts of rows that have other paths, each with those that were found.
-fn wrong_paths(alloc: Global, rows: &[Row]) -> Result<String, Fail> {
-    let mut wrong = String::new(alloc);
-    for (text, names, wanted) in rows {
-        let found = paths_after(alloc, text, names)?;
-        if found.as_str() != *wanted {
-            wrong.push_str(text)?;
-            wrong.push_str(found.as_str())?;
+/// Whether names have these paths.
+pub(crate) fn has_paths(
+    layout: &Layout,
+    paths: &[(&'static str, &'static str)],
+) -> Result<bool, AllocError> {
+    for (name, letters) in paths {
+        if !is_written(layout.path(name)?, letters) {
+            return Ok(false);
         }
     }
-    Ok(wrong)
+    Ok(true)
+}
+
+/// Whether the names of a row have their paths after its patterns.
+fn is_right(alloc: Global, row: &Row) -> Result<bool, AllocError> {
+    let kind = HlType::Bool;
+    let patterns = patterns(alloc, row.1)?;
+    match layout_of(alloc, patterns.as_slice(), &kind)? {
+        Some(layout) => has_paths(&layout, row.2),
+        None => Ok(false),
+    }
 }
 
 #[test]
-fn tuples_of_one_to_nine(rt: HostRuntime) -> Result<(), Fail> {
-    assert_eq!(rt; wrong_paths(rt.alloc(), &TUPLES)?.as_str(), "");
-    Ok(())
-}
-
-#[test]
-fn patterns_and_shadowing(rt: HostRuntime) -> Result<(), Fail> {
-    assert_eq!(rt; wrong_paths(rt.alloc(), &SCOPES)?.as_str(), "");
+fn names_have_paths(rt: HostRuntime) -> Result<(), Fail> {
+    for row in ROWS.iter() {
+        expect(is_right(rt.alloc(), row)?, row.0)?;
+    }
     Ok(())
 }
