@@ -11,7 +11,7 @@ use std::alloc::{AllocError, Global};
 
 /// What a name is asked for as: variables and witnesses don't hide each other.
 #[derive(Clone, Copy, Debug, PartialEq, Eq)]
-pub(crate) enum Sort {
+pub enum Sort {
     Variable,
     Witness,
 }

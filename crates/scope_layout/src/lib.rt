@@ -12,6 +12,7 @@ mod layout;
 mod names;
 mod path;
 
+pub use bound::Sort;
 pub use layout::{Layout, WitnessNames};
 pub use path::{Path, Step};
 
