@@ -15,27 +15,12 @@ use Rattle.simplicity.specs.Pruning.{renamed, gathered, IsMerged}
 use Rattle.simplicity.proofs.Typings.{entry_at, some_entry}
 use Rattle.sharing.specs.Laws.{entries_at, IsOnto}
 use Rattle.sharing.proofs.Closed.{AllOf}
-use Rattle.sharing.proofs.Merging.{within_of, there_at, meets_by}
+use Rattle.sharing.proofs.Merging.{within_of, there_at, meets_by, hidden_along}
 use Rattle.sharing.proofs.Orderly.{position, position_there}
 use Rattle.sharing.proofs.Gathering.{place_is, post_picked, picked_within, gathered_length, root_place, has_at}
 use Rattle.sharing.proofs.Merged.{merge_carries}
 use Rattle.sharing.proofs.Unfolded.{gather_carries}
 use Rattle.sharing.proofs.Gathering.{children_are}
-
-hidden_along : (f : ℕ → ℕ) (n : Node) → IsHidden (Some n) → IsHidden (Some (renamed f n))
-hidden_along f (node.Hidden h) is = tt
-hidden_along f node.Iden is = elim is [ ]
-hidden_along f node.UnitNode is = elim is [ ]
-hidden_along f (node.Injl i) is = elim is [ ]
-hidden_along f (node.Injr i) is = elim is [ ]
-hidden_along f (node.Take i) is = elim is [ ]
-hidden_along f (node.Drop i) is = elim is [ ]
-hidden_along f (node.Comp i j) is = elim is [ ]
-hidden_along f (node.Case i j) is = elim is [ ]
-hidden_along f (node.Pair i j) is = elim is [ ]
-hidden_along f (node.Fail e) is = elim is [ ]
-hidden_along f node.Witness is = elim is [ ]
-hidden_along f (node.Word k m) is = elim is [ ]
 
 module _ (P : ℕ → Type 0) (f : ℕ → ℕ) (ns ms : List Node) (ts us : Typing) (nodes : (i : ℕ) (n : Node) → P i → slice_get ns i ≡ Some n → slice_get ms (f i) ≡ Some (renamed f n))
     (inherit : (i : ℕ) (n : Node) → P i → slice_get ns i ≡ Some n → AllOf P (children n)) (arrows : (i : ℕ) (e : Option Arrow) → P i → slice_get ts i ≡ Some e → slice_get us (f i) ≡ Some e) where

@@ -1,3 +1,4 @@
+-- The files of this crate's definitions.
 pub mod Status
 pub mod Names
 pub mod Texts

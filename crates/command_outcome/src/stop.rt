@@ -1,3 +1,5 @@
+//! Why a command ends without a text for `out`.
+
 ghost use Rattle.std.specs.Prelude.{◌≡◌};
 ghost use Rattle.command_outcome.specs.declared.stop.Stop.TheVariants.{OutOfMemory};
 

@@ -1,3 +1,4 @@
+-- The files of this crate's definitions.
 pub mod Editions
 pub mod Keys
 pub mod Words

@@ -1,3 +1,5 @@
+//! Core types and core values as trees.
+
 ghost use Rattle.std.specs.Prelude.{◌↔◌, IsTrue};
 ghost use Rattle.simplicity.specs.Types.{IsOf};
 ghost use Rattle.core_data.specs.Data.{kind_of, value_of};

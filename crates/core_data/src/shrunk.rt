@@ -1,3 +1,5 @@
+//! A value shrunk to a type: what the type has as One is cut off.
+
 ghost use Rattle.std.specs.Prelude.{◌≡◌, [], ◌∷◌, ◌++◌, ◌+◌, ◌*◌, ◌<◌, ◌≤◌, length, Some, IfOk, IsSome};
 ghost use Rattle.core_data.specs.Above.{IsOfAbove};
 ghost use Rattle.core_data.specs.Data.{kind_of, value_of};

@@ -1,3 +1,4 @@
+-- The files of this crate's definitions.
 pub mod Arms
 pub mod Forms
 pub mod Jets

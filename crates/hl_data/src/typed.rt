@@ -1,3 +1,5 @@
+//! Typed trees of the source language: functions, statements, arms and expressions with their types.
+
 use crate::HlValue;
 use hl_syntax::{HlType, Pattern, Wanted};
 use lists::{Boxed as Box, Sequence, Text};

@@ -1,3 +1,5 @@
+//! Values of the source language, and values by name.
+
 use hl_syntax::HlType;
 use lists::{Boxed as Box, Sequence, Text};
 use word_math::Word;

@@ -1,3 +1,4 @@
+-- The files of this crate's laws and answers to goals.
 pub mod Names
 pub mod Onto
 pub mod Called

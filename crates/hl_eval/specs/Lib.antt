@@ -1,3 +1,4 @@
+-- The files of this crate's definitions.
 pub mod Bindings
 pub mod Complete
 pub mod Outcome

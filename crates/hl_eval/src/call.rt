@@ -1,3 +1,5 @@
+//! The call of a program's function with an argument and the values of witnesses.
+
 ghost use Rattle.std.specs.Prelude.{IfOk};
 ghost use Rattle.hl_meaning.specs.Mean.{meaning};
 ghost use Rattle.hl_progress.specs.Calls.{FitsCall};

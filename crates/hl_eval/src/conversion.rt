@@ -1,3 +1,5 @@
+//! `into`: the value of another type of the same form.
+
 ghost use Rattle.std.specs.Prelude.{◌≡◌, IfOk};
 ghost use Rattle.hl_eval.specs.Outcome.{AnswersMeaning};
 ghost use Rattle.hl_meaning.specs.Mean.{are_alike, converted};

@@ -1,3 +1,5 @@
+//! Copies of values.
+
 ghost use Rattle.std.specs.Prelude.{◌≡◌, IfOk};
 
 use hl_data::{HlValue, HlValues};

@@ -1,3 +1,5 @@
+//! What a part of a program is evaluated with, and calls of functions and loops.
+
 ghost use Rattle.std.specs.Prelude.{ℕ, ◌≡◌, ◌<◌, None, length, find, position, bytes_eq, option_map, MatchResult, IfSome, IfOk, IsTrue};
 ghost use Rattle.hl_meaning.specs.Answer.{known};
 ghost use Rattle.hl_meaning.specs.Scopes.{meant};

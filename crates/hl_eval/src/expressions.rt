@@ -1,3 +1,5 @@
+//! The value of an expression, form by form.
+
 ghost use Rattle.std.specs.Prelude.{◌≡◌, ◌<◌, ◌^◌, [], ◌∷◌, length, map, option_map, IfOk, IsTrue, is_some};
 ghost use Rattle.hl_data.specs.declared.typed.TypedArm.{out-TypedArm};
 ghost use Rattle.hl_meaning.specs.Answer.{stuck, and_then};

@@ -1,3 +1,5 @@
+//! Why there is no value.
+
 ghost use Rattle.std.specs.Prelude.{◌≡◌};
 ghost use Rattle.hl_eval.specs.declared.fault.EvalFault.TheVariants.{OutOfMemory};
 

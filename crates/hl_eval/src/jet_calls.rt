@@ -1,3 +1,5 @@
+//! Calls of jets: values as words, and words as values.
+
 ghost use Rattle.std.specs.Prelude.{◌≡◌, Some, None, MatchOption, MatchResult, IfOk};
 ghost use Rattle.hl_data.specs.declared.value.HlValue.TheViews.{out-HlValue};
 ghost use Rattle.jet_table.specs.Rows.{kind_of, kinds_of};

@@ -1,3 +1,5 @@
+//! Numbers that literals spell.
+
 ghost use Rattle.std.specs.Prelude.{◌≡◌};
 ghost use Rattle.jets.specs.Unsigned.{is_width};
 ghost use Rattle.hl_syntax.specs.declared.kinds.HlType.TheViews.{out-HlType};

@@ -1,3 +1,5 @@
+//! Whether a value is of a type.
+
 ghost use Rattle.std.specs.Prelude.{◌≡◌, map, is_some, IsTrue};
 ghost use Rattle.std.specs.List.{list_all};
 ghost use Rattle.simplicityhl.specs.Kinds.{is_sound};

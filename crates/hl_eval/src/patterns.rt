@@ -1,3 +1,5 @@
+//! Patterns, parameters and sides bind names to parts of values.
+
 ghost use Rattle.std.specs.Prelude.{IsTrue, is_some};
 ghost use Rattle.hl_data.specs.declared.value.HlValue.TheViews.{out-HlValue};
 ghost use Rattle.hl_meaning.specs.Mean.{taken};

@@ -1,3 +1,5 @@
+//! What the function of a name gives.
+
 ghost use Rattle.hl_meaning.specs.Mean.{meaning};
 ghost use Rattle.hl_eval.specs.Bindings.{bindings_of};
 ghost use Rattle.hl_eval.specs.Outcome.{AnswersMeaning};

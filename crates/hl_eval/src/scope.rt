@@ -1,3 +1,5 @@
+//! Names with their values.
+
 ghost use Rattle.std.specs.Prelude.{◌≡◌, ◌-◌, ◌≤◌, [], ◌∷◌, length, drop, reverse, Some, None, find, bytes_eq, option_map, MatchOption, OnOk};
 ghost use Rattle.hl_meaning.specs.Answer.{known};
 ghost use Rattle.hl_meaning.specs.Scopes.{meant};

@@ -1,3 +1,5 @@
+//! Whether a type has the widths, counts and bounds that types have.
+
 ghost use Rattle.std.specs.Prelude.{◌≡◌, map};
 ghost use Rattle.std.specs.List.{list_all};
 ghost use Rattle.simplicityhl.specs.Kinds.{is_sound};

@@ -1,3 +1,5 @@
+//! What a turn of a loop comes to.
+
 ghost use Rattle.hl_data.specs.declared.value.HlValue.TheViews.{out-HlValue};
 ghost use Rattle.hl_eval.specs.Outcome.{AnswersMeaning};
 ghost use Rattle.hl_eval.specs.Turned.{turned};

@@ -1,3 +1,5 @@
+//! What a form does with the values of its parts.
+
 ghost use Rattle.hl_data.specs.declared.value.HlValue.TheViews.{out-HlValue};
 ghost use Rattle.hl_meaning.specs.Answer.{known};
 ghost use Rattle.hl_eval.specs.Outcome.{AnswersMeaning};

@@ -1,3 +1,5 @@
+//! Parts of values: sides, items, arguments, numbers.
+
 ghost use Rattle.std.specs.Prelude.{◌≡◌, [], ◌∷◌, IfOk, IsTrue, Some, is_some};
 ghost use Rattle.hl_data.specs.declared.value.HlValue.TheViews.{out-HlValue};
 ghost use Rattle.hl_data.specs.declared.value.HlValue.TheVariants as value;

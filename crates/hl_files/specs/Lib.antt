@@ -1,3 +1,4 @@
+-- The files of this crate's definitions.
 pub mod Answers
 pub mod Entries
 pub mod Objects

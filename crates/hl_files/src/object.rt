@@ -1,3 +1,5 @@
+//! The JSON object that a data file is.
+
 ghost use Rattle.hl_files.specs.Objects.{ReadsObject};
 
 use serde_json::Value;

@@ -1,3 +1,5 @@
+//! The names of the `param::` that a program reads, in their order.
+
 ghost use Rattle.std.specs.Prelude.{◌≡◌, bytes_eq, map, IfOk, OnOk};
 ghost use Rattle.std.specs.List.{list_any};
 ghost use Rattle.hl_files.specs.Params.{all_of, in_arm, in_expr, in_form, in_statement, param_names, with_name, with_names};

@@ -1,3 +1,5 @@
+//! Why a data file is refused.
+
 use lists::Text;
 use std::alloc::AllocError;
 

@@ -1,3 +1,5 @@
+//! What stands at the front of a text: white space, a comment, a token, a fault.
+
 ghost use Rattle.std.specs.Prelude.{◌≡◌, ◌<◌, ◌≤◌, ◌+◌, length, IfOk, [], ◌∷◌};
 ghost use Rattle.std.specs.List.{prefix_len};
 ghost use Rattle.std.specs.Prelude.{IsUtf8, IfSome, drop};

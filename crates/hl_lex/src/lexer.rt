@@ -1,3 +1,5 @@
+//! The tokens of a text.
+
 ghost use Rattle.std.specs.Prelude.{◌≡◌, ◌<◌, ◌≤◌, ◌+◌, length, drop, IfOk, IfErr};
 ghost use Rattle.simplicityhl.specs.Tokens.{tokens, tokens_after};
 ghost use Rattle.hl_lex.specs.Lexes.{IsAnswerTo, IsRefusalFor, IsRefusalOf, tokens_then};

@@ -1,3 +1,5 @@
+//! Literals: decimal, hexadecimal and binary digits.
+
 ghost use Rattle.std.specs.Prelude.{◌≡◌, ◌<◌, ◌^◌, ◌↔◌, ◌+◌, ◌*◌, ◌-◌, IsTrue, SomeIff};
 ghost use Rattle.std.specs.Char.{is_ascii_digit, is_ascii_hexdigit};
 ghost use Rattle.std.specs.List.{list_any};

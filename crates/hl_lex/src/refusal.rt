@@ -1,3 +1,5 @@
+//! Why a text has no tokens.
+
 use hl_syntax::Span;
 use std::alloc::AllocError;
 

@@ -1,3 +1,5 @@
+//! Symbols: the longest that a text begins with.
+
 ghost use Rattle.std.specs.Prelude.{◌≡◌, ◌≤◌, length};
 ghost use Rattle.simplicityhl.specs.Tokens.{symbol_of, symbol_text};
 

@@ -1,3 +1,4 @@
+-- The files of this crate's definitions.
 pub mod Literals
 pub mod Values
 pub mod Entries

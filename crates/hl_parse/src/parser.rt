@@ -1,3 +1,5 @@
+//! The tree of a text's tokens, and the type and the value that tokens are.
+
 ghost use Rattle.std.specs.Prelude.{◌≡◌, ℕ, List, IfOk};
 ghost use Rattle.hl_syntax.specs.declared.tree.Item.{Item};
 ghost use Rattle.simplicityhl.specs.Grammar as grammar;

@@ -46,7 +46,7 @@ use Rattle.hl_progress.proofs.Converted.{converted_holds}
 use Rattle.hl_progress.proofs.Fits.{opened, array_of, list_of, tuple_fits, array_fits, list_fits, some_fits, nothing_fits, left_fits, right_fits, bool_fits}
 use Rattle.hl_progress.proofs.Loops.{HasItems, loop_holds, while_holds}
 use Rattle.hl_progress.proofs.Scopes.{ScopeFits, HaveValues, Means, scope_join, name_value, witness_value}
-use Rattle.hl_progress.proofs.Widths.{word_width}
+use Rattle.hl_typing.proofs.WordWidths.{word_width}
 
 -- what a body is typed and evaluated in: functions that have answers of their types, and values of the witnesses that it may name
 pub record Setting : Type 0 where

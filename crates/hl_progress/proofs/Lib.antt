@@ -1,3 +1,4 @@
+-- The files of this crate's laws and answers to goals.
 pub mod Scopes
 pub mod Fits
 pub mod Answers
@@ -5,7 +6,6 @@ pub mod Bound
 pub mod Arms
 pub mod Called
 pub mod Loops
-pub mod Widths
 pub mod Converted
 pub mod Bodies
 pub mod Programs

@@ -1,3 +1,4 @@
+-- The files of this crate's definitions.
 pub mod Held
 pub mod Calls
 pub mod Laws

@@ -1,3 +1,4 @@
+-- The files of this crate's definitions.
 pub mod Same
 pub mod Names
 pub mod Steps

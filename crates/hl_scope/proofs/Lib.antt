@@ -1,3 +1,4 @@
+-- The files of this crate's laws and answers to goals.
 pub mod Finds
 pub mod FirstPlaces
 pub mod Outer

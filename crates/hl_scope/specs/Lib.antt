@@ -1,3 +1,4 @@
+-- The files of this crate's definitions.
 pub mod Checks
 pub mod Contexts
 pub mod Heads

@@ -1,3 +1,5 @@
+//! What a form of an expression is asked.
+
 use hl_syntax::{HlType, Rule, Span};
 
 /// What a form of an expression is asked: its span, the type that it is to be of, and the rule by

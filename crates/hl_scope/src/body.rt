@@ -1,3 +1,5 @@
+//! What is known at a place of a body.
+
 use crate::scope::Scope;
 use hl_syntax::Wanted;
 

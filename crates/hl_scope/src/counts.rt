@@ -1,3 +1,5 @@
+//! Counts of items, within the greatest.
+
 ghost use Rattle.std.specs.Prelude.{IfOk, IsTrue};
 ghost use Rattle.simplicityhl.specs.Kinds.{is_count};
 ghost use Rattle.simplicityhl.specs.Written.{counted};

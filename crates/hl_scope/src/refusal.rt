@@ -1,3 +1,5 @@
+//! Why a text has no typed tree.
+
 ghost use Rattle.hl_scope.specs.Checks.{Checks};
 ghost use Rattle.hl_rules.specs.Steps.{needs};
 

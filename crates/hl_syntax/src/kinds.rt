@@ -1,3 +1,5 @@
+//! Types of the source language.
+
 use lists::{Boxed as Box, Sequence, Text};
 
 pub type HlTypes = Sequence<HlType>;

@@ -1,3 +1,5 @@
+//! Tokens, and places in a text.
+
 use lists::{Sequence, Text};
 
 /// The bytes of a text from `start` up to and without `end`.

@@ -1,3 +1,5 @@
+//! Trees of source texts, as they are written.
+
 use crate::{Mark, Span};
 use lists::{Boxed as Box, Sequence, Text};
 

@@ -50,7 +50,8 @@ use Rattle.hl_term_laws.proofs.Listed.{listed_right}
 use Rattle.hl_term_laws.proofs.Matches.{Ordered, left_first, right_first, taken, left_side}
 use Rattle.hl_term_laws.proofs.Params.{value_right}
 use Rattle.hl_term_laws.proofs.Parts.{AreRendered}
-use Rattle.hl_term_laws.proofs.Widths.{word_width, bound_power}
+use Rattle.hl_typing.proofs.WordWidths.{word_width}
+use Rattle.hl_term_laws.proofs.Widths.{bound_power}
 
 -- what a body is typed, evaluated and translated in: functions that are rendered, and witnesses of which the scope binds these
 pub record Setting : Type 0 where

@@ -1,29 +1,7 @@
--- The widths of words of types are those of the machine's words, and the bound of a list is a power of two.
-use Rattle.std.proofs.Common.{◌≡◌, ℕ, zero, suc, ◌^◌, ◌<◌, true, nat_lt, nat_eq, eqb-true, ltb-true, arith, refl, sym, subst, IsTrue}
-use Rattle.jets.specs.Unsigned as jets
-use Rattle.simplicity.specs.Widths.{level_of}
-use Rattle.simplicityhl.specs.Kinds.{is_width, is_bound, bound_level}
+-- The bound of a list is a power of two.
+use Rattle.std.proofs.Common.{◌≡◌, ℕ, suc, ◌^◌, nat_lt, nat_eq, eqb-true, IsTrue}
+use Rattle.simplicityhl.specs.Kinds.{is_bound, bound_level}
 use Rattle.hl_typing.proofs.Same.{both_true}
-
-past : (level : ℕ) → suc (suc (suc (suc (suc (suc (suc (suc (suc level)))))))) < 9 → ⊥
-past level h = omega arith
-
-few : (level : ℕ) → nat_lt level 9 ≡ true → jets.is_width (2 ^ level) ≡ true
-few zero h = refl
-few (suc zero) h = refl
-few (suc (suc zero)) h = refl
-few (suc (suc (suc zero))) h = refl
-few (suc (suc (suc (suc zero)))) h = refl
-few (suc (suc (suc (suc (suc zero))))) h = refl
-few (suc (suc (suc (suc (suc (suc zero)))))) h = refl
-few (suc (suc (suc (suc (suc (suc (suc zero))))))) h = refl
-few (suc (suc (suc (suc (suc (suc (suc (suc zero)))))))) h = refl
-few (suc (suc (suc (suc (suc (suc (suc (suc (suc level))))))))) h = absurd (past level (ltb-true _ _ h))
-
-pub word_width : (width : ℕ) → IsTrue (is_width width) → IsTrue (jets.is_width width)
-word_width width h =
-    let both = both_true (nat_lt (level_of width) 9) (nat_eq width (2 ^ level_of width)) h in
-    subst (λ w. IsTrue (jets.is_width w)) (sym (eqb-true width (2 ^ level_of width) both.1)) (few (level_of width) both.0)
 
 pub bound_power : (bound : ℕ) → IsTrue (is_bound bound) → bound ≡ 2 ^ suc (bound_level bound)
 bound_power bound h = eqb-true bound (2 ^ suc (bound_level bound)) (both_true (nat_lt (bound_level bound) 16) (nat_eq bound (2 ^ suc (bound_level bound))) h).1

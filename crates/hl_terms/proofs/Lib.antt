@@ -1,1 +1,2 @@
+-- The files of this crate's laws and answers to goals.
 pub mod Forms

@@ -1,3 +1,5 @@
+//! Why a text gives no type.
+
 use std::alloc::AllocError;
 
 /// Why a text gives no type.

@@ -1,3 +1,5 @@
+//! Copies of types.
+
 ghost use Rattle.std.specs.Prelude.{◌≡◌, IfOk};
 
 use hl_syntax::{HlType, HlTypes};

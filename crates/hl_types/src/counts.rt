@@ -1,3 +1,5 @@
+//! Counts of items and bounds of lists.
+
 ghost use Rattle.std.specs.Prelude.{◌≡◌, ◌<◌, min, IfOk, IsTrue};
 ghost use Rattle.hl_types.specs.Answers.{AnswersType};
 ghost use Rattle.simplicityhl.specs.Kinds.{is_bound, is_count};

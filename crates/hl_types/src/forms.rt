@@ -1,3 +1,5 @@
+//! Forms of options, arrays, tuples and lists: the core types that they are encoded in.
+
 ghost use Rattle.std.specs.Prelude.{◌≡◌, ℕ, ◌<◌, length, map, IfOk};
 ghost use Rattle.hl_types.specs.Ids.{AreBelow};
 ghost use Rattle.simplicity.specs.Tuples.{copies_kind, tuple_kind};

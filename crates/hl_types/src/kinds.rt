@@ -1,3 +1,5 @@
+//! The form of a type.
+
 ghost use Rattle.std.specs.Prelude.{◌≡◌, ◌<◌, length, IfOk, IsTrue};
 ghost use Rattle.simplicityhl.specs.Kinds.{bound_level, form, is_bound, IsSound};
 ghost use Rattle.type_table.specs.Kinds.{Means, IsGrown, IsDistinct};

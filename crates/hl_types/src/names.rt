@@ -1,3 +1,5 @@
+//! Names of types.
+
 ghost use Rattle.std.specs.Prelude.{◌≡◌, IfOk, IfSome, option_copied, option_map, find, bytes_eq};
 ghost use Rattle.hl_types.specs.Walks.{AreSound};
 ghost use Rattle.simplicityhl.specs.Kinds.{IsSound};

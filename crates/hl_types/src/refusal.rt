@@ -1,3 +1,5 @@
+//! Why a written type stands for no type.
+
 use hl_syntax::{Limit, Rule, Span};
 use std::alloc::AllocError;
 

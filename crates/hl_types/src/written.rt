@@ -1,3 +1,5 @@
+//! The type that a written type stands for.
+
 ghost use Rattle.std.specs.Prelude.{◌≡◌, IfOk, map, nat_lt};
 ghost use Rattle.std.specs.List.{All};
 ghost use Rattle.hl_types.specs.Answers.{AnswersType};

@@ -1,3 +1,4 @@
+-- The files of this crate's laws and answers to goals.
 pub mod Every
 pub mod Once
 pub mod Steps
@@ -7,6 +8,7 @@ pub mod Sound
 pub mod Listed
 pub mod Keeping
 pub mod Widths
+pub mod WordWidths
 pub mod Patterns
 pub mod Claims
 pub mod Called

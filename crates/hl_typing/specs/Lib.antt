@@ -1,3 +1,4 @@
+-- The files of this crate's definitions.
 pub mod Patterns
 pub mod Typing
 pub mod Erased

@@ -1,3 +1,4 @@
+-- The files of this crate's laws and answers to goals.
 pub mod Codecs
 pub mod Coding
 pub mod Decoding

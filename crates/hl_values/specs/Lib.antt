@@ -1,3 +1,4 @@
+-- The files of this crate's definitions.
 pub mod Last
 pub mod Leaves
 pub mod Printed

@@ -1,3 +1,5 @@
+//! Why a text gives no value.
+
 use std::alloc::AllocError;
 
 /// Why a text gives no value.

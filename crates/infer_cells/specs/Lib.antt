@@ -1,3 +1,4 @@
+-- The files of this crate's definitions.
 pub mod Cells
 pub mod Merged
 pub mod Walk

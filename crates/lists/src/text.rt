@@ -1,3 +1,5 @@
+//! A text that contracts see as its bytes.
+
 ghost use Rattle.std.specs.Prelude.{◌≡◌, IfOk, IsUtf8};
 
 use std::alloc::{AllocError, Global};

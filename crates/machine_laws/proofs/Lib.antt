@@ -1,3 +1,4 @@
+-- The files of this crate's laws and answers to goals.
 pub mod Moves
 pub mod Lands
 pub mod Forms

@@ -1,3 +1,4 @@
+-- The files of this crate's definitions.
 pub mod Counts
 pub mod Files
 pub mod HostFiles

@@ -1,2 +1,3 @@
+-- The files of this crate's laws and answers to goals.
 mod Rooted
 mod Words

@@ -1,3 +1,4 @@
+-- The files of this crate's definitions.
 pub mod Steps
 pub mod Keys
 pub mod Merged

@@ -78,7 +78,7 @@ meets_back m f ws vs (node.Fail e) _ _ on u (row.Fail _ a b) = row.Fail e a b
 meets_back m f ws vs node.Witness _ _ on u (row.Witness a b) = row.Witness a b
 meets_back m f ws vs (node.Word k n) _ _ on u (row.Word _ _) = row.Word k n
 
-hidden_along : (f : ℕ → ℕ) (n : Node) → IsHidden (Some n) → IsHidden (Some (renamed f n))
+pub hidden_along : (f : ℕ → ℕ) (n : Node) → IsHidden (Some n) → IsHidden (Some (renamed f n))
 hidden_along f (node.Hidden h) is = tt
 hidden_along f node.Iden is = elim is [ ]
 hidden_along f node.UnitNode is = elim is [ ]

@@ -10,7 +10,7 @@ use Rattle.simplicity.specs.Order.{has, post_order}
 use Rattle.simplicity.specs.Typing.{Typing}
 use Rattle.simplicity.specs.Pruning.{renamed, picked, gathered, numbers_next, numbers_at, gathered_numbers, IsMerged}
 use Rattle.simplicity.proofs.Unfold.{parts_at, shown_at, hidden_side_at}
-use Rattle.simplicity.proofs.Trees.{nodes_unfold, Standing}
+use Rattle.simplicity.proofs.Trees.{nodes_unfold, Standing, standing}
 use Rattle.sharing.specs.Images.{into, images}
 use Rattle.sharing.proofs.Closed.{AllOf}
 use Rattle.sharing.specs.Laws.{renumbered, ReorderingRenumbers}
@@ -18,22 +18,6 @@ use Rattle.sharing.proofs.Merging.{within_of, there_at}
 use Rattle.sharing.proofs.Orderly.{position, range_get}
 use Rattle.sharing.proofs.Gathering.{Within, within_rest, picked_is, Picked, pick, pick_at, place_is, picked_within, post_picked, gathered_placed, gathered_ordered, gathered_length, gathered_full, root_place, pick_carries, has_at}
 use Rattle.sharing.proofs.Merged.{Kindly, IsWitness, IsPlain, kindly, witness_back, Split, Less, More, split, next_is, next_into, old_into, merged_in_order, all_of_at}
-
-standing : (ns : List Node) (i : ℕ) (t : Term) → Unfolds ns i t → Standing ns i
-standing ns _ _ (node.UnfoldIden i is) = record { node_there = node.Iden; there = is; shown = tt }
-standing ns _ _ (node.UnfoldUnit i is) = record { node_there = node.UnitNode; there = is; shown = tt }
-standing ns _ _ (node.UnfoldInjl i j t is on) = record { node_there = node.Injl j; there = is; shown = tt }
-standing ns _ _ (node.UnfoldInjr i j t is on) = record { node_there = node.Injr j; there = is; shown = tt }
-standing ns _ _ (node.UnfoldTake i j t is on) = record { node_there = node.Take j; there = is; shown = tt }
-standing ns _ _ (node.UnfoldDrop i j t is on) = record { node_there = node.Drop j; there = is; shown = tt }
-standing ns _ _ (node.UnfoldComp i j k s t is g h) = record { node_there = node.Comp j k; there = is; shown = tt }
-standing ns _ _ (node.UnfoldCase i j k s t is g h) = record { node_there = node.Case j k; there = is; shown = tt }
-standing ns _ _ (node.UnfoldAssertL i j k s e is g h) = record { node_there = node.Case j k; there = is; shown = tt }
-standing ns _ _ (node.UnfoldAssertR i j k e t is g h) = record { node_there = node.Case j k; there = is; shown = tt }
-standing ns _ _ (node.UnfoldPair i j k s t is g h) = record { node_there = node.Pair j k; there = is; shown = tt }
-standing ns _ _ (node.UnfoldFail i e is) = record { node_there = node.Fail e; there = is; shown = tt }
-standing ns _ _ (node.UnfoldWitness i is) = record { node_there = node.Witness; there = is; shown = tt }
-standing ns _ _ (node.UnfoldWord i k n is) = record { node_there = node.Word k n; there = is; shown = tt }
 
 -- the tree of a node is what it unfolds to
 made : (ns : List Node) (i : ℕ) (n : Node) → IsPlaced ns → slice_get ns i ≡ Some n → tree_of_node ns i ≡ tree_of_part (part_of (parts ns) (witness_number ns i) n)

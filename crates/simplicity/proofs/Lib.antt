@@ -1,3 +1,4 @@
+-- The files of this crate's laws and answers to goals.
 pub mod Naturals
 pub mod Carries
 pub mod Rows
@@ -6,7 +7,7 @@ pub mod RowRuns
 mod RowRoots
 mod RowRefusals
 mod RowWitness
-mod RowPruned
+pub mod RowPruned
 pub mod Inversion
 pub mod Typings
 pub mod Below

@@ -28,7 +28,7 @@ abbrev test_witness : List Value
 test_witness = Inr UnitValue ∷ []
 
 -- the left side of the case is hidden
-hide_if : Bool → Choice
+pub hide_if : Bool → Choice
 hide_if true = HideLeft
 hide_if false = Keep
 
@@ -98,12 +98,12 @@ right_alone _ a c SeenSide e f = absurd (omega arith)
 not_left : (i : ℕ) → i ≡ 4 → IsVisitedLeft test_nodes test_witness UnitValue i → ⊥
 not_left i e h = right_alone (visit i (Pair (Inl h.1) h.2)) h.1 h.2 (all_seen (visit i (Pair (Inl h.1) h.2)) h.3) e refl
 
-hide_left : (b : Bool) → hide_if b ≡ HideLeft → b ≡ true
+pub hide_left : (b : Bool) → hide_if b ≡ HideLeft → b ≡ true
 unfolding hide_if
 hide_left true e = refl
 hide_left false e = absurd (cc)
 
-hide_right : (b : Bool) → hide_if b ≡ HideRight → ⊥
+pub hide_right : (b : Bool) → hide_if b ≡ HideRight → ⊥
 unfolding hide_if
 hide_right true e = absurd (cc)
 hide_right false e = absurd (cc)

@@ -1,3 +1,4 @@
+-- The files of this crate's definitions.
 pub mod Types
 pub mod Limits
 pub mod Widths

@@ -1,3 +1,4 @@
+-- The files of this crate's definitions.
 pub mod Names
 pub mod Small
 pub mod Tokens

@@ -1,3 +1,5 @@
+//! The tokens of a small function's text, read one by one.
+
 ghost use Rattle.std.specs.Prelude.{◌≡◌, ℕ, ◌+◌, ◌≤◌, ◌↔◌, [], ◌∷◌, length, drop, IsTrue, MatchOption};
 ghost use Rattle.std.specs.List.{prefix_len};
 ghost use Rattle.small_source.specs.Names.{is_blank, is_word_byte};

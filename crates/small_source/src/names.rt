@@ -1,3 +1,5 @@
+//! Names, keywords and reserved words.
+
 ghost use Rattle.std.specs.Prelude.{◌≡◌, bytes_eq};
 ghost use Rattle.std.specs.List.{list_all, list_any};
 ghost use Rattle.small_source.specs.Names.{is_blank, is_name_start, is_word_byte, keywords, is_among, is_name, names_variable, names_function};

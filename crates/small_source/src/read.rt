@@ -1,3 +1,5 @@
+//! A small function read from its text.
+
 ghost use Rattle.std.specs.Prelude.{◌≡◌, ◌+◌, ◌<◌, ◌≤◌, [], ◌∷◌, bytes_eq, IfOk, IsErrOf};
 ghost use Rattle.std.specs.List.{list_any};
 ghost use Rattle.small_source.specs.Small.{Small, IsSmall, IsOneFunction, NamesStandIn};

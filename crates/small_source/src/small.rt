@@ -1,3 +1,5 @@
+//! Small functions, and why none was read.
+
 ghost use Rattle.std.specs.Prelude.{◌≡◌, IfOk};
 ghost use Rattle.small_source.specs.declared.small.SmallRefusal.TheVariants.{OutOfMemory};
 

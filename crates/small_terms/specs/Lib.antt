@@ -1,3 +1,4 @@
+-- The files of this crate's definitions.
 pub mod Tuples
 pub mod Result
 pub mod Plan

@@ -1,3 +1,4 @@
+-- The files of this crate's definitions.
 pub mod Build
 pub mod Outcome
 pub mod Answer

@@ -1,3 +1,5 @@
+//! Core types by number, each once, with cells and weight.
+
 ghost use Rattle.std.specs.Prelude.{◌≡◌, ℕ, ◌+◌, ◌-◌, ◌^◌, ◌<◌, min, [], length, IfOk};
 ghost use Rattle.simplicity.specs.Limits.{capped};
 ghost use Rattle.simplicity.specs.Types.{One, Sum, Product, size, weight};

@@ -1,3 +1,5 @@
+//! A core type as a tree.
+
 ghost use Rattle.std.specs.Prelude.{◌≡◌, [], ◌∷◌, ◌++◌, ◌+◌, ◌*◌, ◌<◌, ◌≤◌, length, Some, IfOk, IsSome};
 ghost use Rattle.core_data.specs.Data.{kind_of};
 ghost use Rattle.simplicity.specs.Limits.{most_weight};

@@ -1,3 +1,4 @@
+-- The files of this crate's definitions.
 pub mod Halves
 pub mod Op
 pub mod Answer

@@ -1,3 +1,4 @@
+-- Answers to the goals of `expr_fronts_law`: the same for expressions.
 use Rattle.simplicityhl.specs.Grammar as grammar
 use Rattle.hl_grammar.specs.Read as read
 use Rattle.hl_grammar.proofs.Places.{has_fronts}

@@ -1,3 +1,4 @@
+-- Answers to the goals of `one_expr_law`: tokens are one expression at most.
 use Rattle.std.proofs.Common.{false}
 use Rattle.simplicityhl.specs.Grammar as grammar
 use Rattle.hl_grammar.specs.Read as read

@@ -1,3 +1,4 @@
+-- Answers to the goals of `one_program_law`: tokens are one program at most.
 use Rattle.simplicityhl.specs.Grammar as grammar
 use Rattle.hl_grammar.specs.Read as read
 use Rattle.hl_grammar.proofs.Programs.{program_at}

@@ -1,3 +1,4 @@
+-- Answers to the goals of `one_value_law`: tokens are one value text at most.
 use Rattle.std.proofs.Common.{true}
 use Rattle.simplicityhl.specs.Grammar as grammar
 use Rattle.hl_grammar.specs.Read as read

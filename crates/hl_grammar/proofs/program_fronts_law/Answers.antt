@@ -1,3 +1,4 @@
+-- Answers to the goals of `program_fronts_law`: the same for programs.
 use Rattle.simplicityhl.specs.Grammar as grammar
 use Rattle.hl_grammar.specs.Read as read
 use Rattle.hl_grammar.proofs.Places.{has_fronts}

@@ -1,3 +1,5 @@
+-- Answers to the goals of `type_fronts_law`: types: viable tokens can be completed, and all tokens are a
+-- type, dead at a place, or too deep from a token on.
 use Rattle.simplicityhl.specs.Grammar as grammar
 use Rattle.hl_grammar.specs.Read as read
 use Rattle.hl_grammar.proofs.Places.{has_fronts}

@@ -1,3 +1,4 @@
+-- Answers to the goals of `typed_programs_are_typed`: a typed program is typed by the rules.
 use Rattle.hl_typing.proofs.Programs.{unbroken_typed}
 use Rattle.hl_typing.proofs.typed_programs_are_typed.Goals as goal
 

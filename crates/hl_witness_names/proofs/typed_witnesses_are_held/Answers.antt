@@ -1,3 +1,4 @@
+-- Answers to the goals of `typed_witnesses_are_held`: the same of a typed program.
 use Rattle.hl_witness_names.proofs.typed_witnesses_are_held.Goals as goal
 
 pub returns : goal.returns

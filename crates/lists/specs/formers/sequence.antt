@@ -1,1 +1,2 @@
+-- The former of lists.
 pub mod Sequence

@@ -1,3 +1,5 @@
+-- Answers to the goals of `below_orders_law`: `≤` on types, by which least typings are compared, is a
+-- partial order.
 use Rattle.simplicity.proofs.Below.{below_self, below_through, below_both}
 use Rattle.simplicity.proofs.below_orders_law.Goals as goal
 

@@ -1,3 +1,5 @@
+-- Answers to the goals of `naturals_agree_law`: the function that gives a natural's code and the
+-- relation by cases agree.
 use Rattle.simplicity.proofs.Naturals.{natural_holds, natural_only}
 use Rattle.simplicity.proofs.naturals_agree_law.Goals as goal
 

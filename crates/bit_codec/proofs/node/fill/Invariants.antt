@@ -1,3 +1,4 @@
+-- Invariants of `fill`: reads as many bytes as there is room for.
 use Rattle.std.proofs.Common.{◌≡◌, ◌-◌, length, take}
 use Rattle.spelling.specs.Reading.{read_bytes}
 use Rattle.cell_bits.specs.Places.{rest}

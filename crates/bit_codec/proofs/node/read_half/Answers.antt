@@ -1,3 +1,4 @@
+-- Answers to the goals of `read_half`: reads a number of at most 128 bits.
 use Rattle.std.proofs.Common.{◌≤◌, ◌<◌, ◌+◌, ◌*◌, arith}
 use Rattle.cell_bits.proofs.Answered.{digit_more}
 use Rattle.bit_codec.proofs.Fields.{half_room, bit_below}

@@ -1,3 +1,4 @@
+-- Invariants of `read_half`: reads a number of at most 128 bits.
 use Rattle.std.proofs.Common.{◌≡◌, ◌<◌, ◌^◌, ◌-◌}
 use Rattle.spelling.specs.Reading.{number}
 use Rattle.cell_bits.specs.Places.{rest}

@@ -1,3 +1,5 @@
+-- Answers to the goals of `read_halves`: reads a number of at most 256 bits, as the bits before its last
+-- 128 and these.
 use Rattle.std.proofs.Common.{◌≡◌, refl, ap, sym, subst, ◌∙◌, ◌+◌, ◌-◌, ◌*◌, ◌/◌, ◌^◌, ◌<◌, ◌≤◌, true, false, [], ◌∷◌, length, arith}
 use Rattle.simplicity.specs.Nodes as node
 use Rattle.spelling.specs.Reading.{Got, then, give, one_bit, number, read_bytes, read_child, carried, read_node, one_child, two_children}

@@ -1,3 +1,4 @@
+-- Answers to the goals of `read_leaf`: reads the rest of a node whose code begins with 01, which has none.
 use Rattle.std.proofs.Common.{◌≡◌, refl, ap, sym, subst, ◌∙◌, ◌+◌, ◌-◌, ◌*◌, ◌/◌, ◌^◌, ◌<◌, ◌≤◌, true, false, [], ◌∷◌, length, arith}
 use Rattle.simplicity.specs.Nodes as node
 use Rattle.spelling.specs.Reading.{Got, then, give, one_bit, number, read_bytes, read_child, carried, read_node, one_child, two_children}

@@ -1,3 +1,4 @@
+-- Answers to the goals of `read_nodes`: reads so many nodes, each of which is tested before the next is read.
 use Rattle.std.proofs.Common.{◌∙◌, ◌<◌, [], arith}
 use Rattle.spelling.specs.Reading.{read_nodes}
 use Rattle.cell_bits.specs.Places.{rest}

@@ -1,3 +1,4 @@
+-- Answers to the goals of `read_program`: the list that the bytes spell.
 use Rattle.std.proofs.Common.{sym, ◌∙◌, length}
 use Rattle.bit_codec.proofs.Lists.{tail_stops, spelled}
 use Rattle.bit_codec.proofs.read.read_program.Goals as goal

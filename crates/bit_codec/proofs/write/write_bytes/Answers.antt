@@ -1,3 +1,4 @@
+-- Answers to the goals of `write_bytes`: appends a code and the bits of bytes.
 use Rattle.bit_codec.proofs.Carried.{byte_next}
 use Rattle.bit_codec.proofs.write.write_bytes.Goals as goal
 

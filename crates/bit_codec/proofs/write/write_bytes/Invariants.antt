@@ -1,3 +1,4 @@
+-- Invariants of `write_bytes`: appends a code and the bits of bytes.
 use Rattle.std.proofs.Common.{◌≡◌, ◌++◌, take}
 use Rattle.simplicity.specs.Spelling.{byte_bits}
 use Rattle.bit_codec.proofs.write.write_bytes.Given as goal

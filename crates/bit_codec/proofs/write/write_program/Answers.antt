@@ -1,3 +1,5 @@
+-- Answers to the goals of `write_program`: the bytes of a program: the number of its nodes, the nodes,
+-- and fewer than eight zero bits.
 use Rattle.bit_codec.proofs.Written.{children_placed, written_next}
 use Rattle.bit_codec.proofs.write.write_program.Goals as goal
 

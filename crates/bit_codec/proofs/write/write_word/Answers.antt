@@ -1,3 +1,4 @@
+-- Answers to the goals of `write_word`: appends the code, the width and the bits of a word.
 use Rattle.std.proofs.Common.{arith, ◌<◌}
 use Rattle.bit_codec.proofs.Carried.{word_next}
 use Rattle.bit_codec.proofs.write.write_word.Goals as goal

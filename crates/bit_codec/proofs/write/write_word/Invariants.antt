@@ -1,3 +1,4 @@
+-- Invariants of `write_word`: appends the code, the width and the bits of a word.
 use Rattle.std.proofs.Common.{◌≡◌, ◌++◌, take}
 use Rattle.simplicity.specs.Spelling.{number_bits}
 use Rattle.bit_codec.proofs.write.write_word.Given as goal

@@ -1,3 +1,5 @@
+-- Answers to the goals of `decode_root`: the root that a line of 64 hexadecimal digits spells, in either
+-- case.
 use Rattle.std.proofs.Common.{◌≡◌, sym, subst}
 use Rattle.std.specs.Prelude.{IsOk}
 use Rattle.hex.proofs.HexLemmas.{IsOk-decode_sized}

@@ -1,3 +1,5 @@
+-- Answers to the goals of `split`: the lines of a file: it is cut at each line feed, a carriage return
+-- before that is dropped, and after a last line feed there is no further line.
 use Rattle.std.proofs.Common.{rules, ◌≡◌, refl, sym, subst, ap, ◌∙◌, ℕ, List, [], ◌∷◌, ◌++◌, length, Some, Bor, inl, inr}
 use Rattle.std.specs.Prelude.{option_map, map, ◌==◌}
 use Rattle.std.proofs.lemmas.List.{map-append, append-nil}

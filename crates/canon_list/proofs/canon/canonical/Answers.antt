@@ -1,3 +1,4 @@
+-- Answers to the goals of `canonical`: the canonical list of a table's term at its own arrow.
 use Rattle.std.proofs.Common.{◌≡◌, sym, subst, length, List, ℕ, ◌<◌}
 use Rattle.simplicity.specs.Typing.{Arrow}
 use Rattle.simplicity.specs.Arrows.{declared_arrow}

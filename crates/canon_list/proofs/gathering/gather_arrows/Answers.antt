@@ -1,3 +1,4 @@
+-- Answers to the goals of `gather_arrows` in `gathering`.
 use Rattle.std.proofs.Common.{◌∙◌, length, get_or}
 use Rattle.canon_list.proofs.Gathers.{item_under, arrows_more, item_at}
 use Rattle.canon_list.proofs.gathering.gather_arrows.Goals as goal

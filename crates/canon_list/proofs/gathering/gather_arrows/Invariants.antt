@@ -1,3 +1,4 @@
+-- Invariants of `gather_arrows` in `gathering`.
 use Rattle.std.proofs.Common.{◌≡◌, take}
 use Rattle.canon_list.specs.Canons.{arrows_at}
 use Rattle.canon_list.proofs.gathering.gather_arrows.Given as goal

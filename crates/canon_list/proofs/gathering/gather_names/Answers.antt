@@ -1,3 +1,4 @@
+-- Answers to the goals of `gather_names` in `gathering`.
 use Rattle.std.proofs.Common.{ap, ◌∙◌, Some, length, get_or, arith}
 use Rattle.term_core.specs.Nodes.{node_of}
 use Rattle.canon_list.proofs.Counting.{number_below}

@@ -1,3 +1,4 @@
+-- Invariants of `gather_names` in `gathering`.
 use Rattle.std.proofs.Common.{◌≡◌, take}
 use Rattle.simplicity.specs.Canon.{names_at}
 use Rattle.simplicity.specs.Pruning.{numbers_at}

@@ -1,3 +1,4 @@
+-- Answers to the goals of `witness_numbers`: for each node how many witness nodes stand before it.
 use Rattle.std.proofs.Common.{ap, sym, ◌∙◌, Some, arith}
 use Rattle.term_core.specs.Nodes.{node_of}
 use Rattle.canon_list.proofs.Counting.{number_first}

@@ -1,3 +1,4 @@
+-- Invariants of `witness_numbers`: for each node how many witness nodes stand before it.
 use Rattle.std.proofs.Common.{◌≡◌, map}
 use Rattle.std.specs.List.{range_with_len}
 use Rattle.simplicity.specs.Nodes.{witness_number}

@@ -1,3 +1,4 @@
+-- Answers to the goals of `subterms` in `subterms`.
 use Rattle.std.proofs.Common.{ap, ◌∙◌, List, ℕ}
 use Rattle.simplicity.specs.Canon.{names_at}
 use Rattle.simplicity.specs.Pruning.{numbers_at}

@@ -1,3 +1,4 @@
+-- Answers to the goals of `bit_at`: the bit at a place of bytes.
 use Rattle.std.proofs.Common.{sym, refl, length, ◌/◌}
 use Rattle.std.proofs.lemmas.Option.{slice_get_read}
 use Rattle.cell_bits.proofs.Reading.{bit_there, bit_behind}

@@ -1,3 +1,4 @@
+-- Answers to the goals of `is_one`: whether the bit at a place of bytes is 1.
 use Rattle.std.proofs.Common.{sym}
 use Rattle.simplicity.specs.Spelling.{byte_bits}
 use Rattle.cell_bits.proofs.Reading.{rest_there, bit_before}

@@ -1,3 +1,5 @@
+-- Answers to the goals of `append_natural`: appends the code of a natural; after an error some of it may
+-- stand there.
 use Rattle.std.proofs.Common.{arith, ◌<◌, ◌≤◌}
 use Rattle.cell_bits.proofs.Bits.{exponent-below, natural-appended}
 use Rattle.cell_bits.proofs.writer.+append_natural.Goals as goal

@@ -1,3 +1,5 @@
+-- Answers to the goals of `append_number`: appends the last `width` bits of a number; after an error
+-- some of them may stand there.
 use Rattle.std.proofs.Common.{arith, ◌-◌}
 use Rattle.cell_bits.proofs.Bits.{number_bits-appended}
 use Rattle.cell_bits.proofs.writer.append_number.Goals as goal

@@ -1,3 +1,5 @@
+-- Invariants of `append_number`: appends the last `width` bits of a number; after an error some of them
+-- may stand there.
 use Rattle.std.proofs.Common.{◌≡◌, ◌++◌, length, take}
 use Rattle.simplicity.specs.Spelling.{number_bits}
 use Rattle.cell_bits.proofs.writer.append_number.Given as goal

@@ -1,3 +1,4 @@
+-- Answers to the goals of `byte_of`: the byte that eight bits are.
 use Rattle.cell_bits.proofs.Bits.{number_bits-next}
 use Rattle.cell_bits.proofs.writer.byte_of.Goals as goal
 

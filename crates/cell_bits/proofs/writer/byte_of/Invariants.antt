@@ -1,3 +1,4 @@
+-- Invariants of `byte_of`: the byte that eight bits are.
 use Rattle.std.proofs.Common.{◌≡◌, ◌<◌, ◌^◌, take}
 use Rattle.simplicity.specs.Spelling.{number_bits}
 use Rattle.cell_bits.proofs.writer.byte_of.Given as goal

@@ -1,3 +1,4 @@
+-- Answers to the goals of `packed`: the bytes that whole bytes of bits are.
 use Rattle.std.proofs.Common.{sym, take-append-drop}
 use Rattle.cell_bits.proofs.Bits.{packed-next}
 use Rattle.cell_bits.proofs.writer.packed.Goals as goal

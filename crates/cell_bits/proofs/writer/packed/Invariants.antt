@@ -1,3 +1,4 @@
+-- Invariants of `packed`: the bytes that whole bytes of bits are.
 use Rattle.std.proofs.Common.{◌≡◌, ◌%◌, ◌++◌, length}
 use Rattle.simplicity.specs.Spelling.{byte_bits}
 use Rattle.cell_bits.proofs.writer.packed.Given as goal

@@ -1,3 +1,4 @@
+-- Answers to the goals of `refused_witnesses` in `refusals`.
 use Rattle.checked_source.proofs.refusals.refused_witnesses.Goals as goal
 
 pub returns-in-NotJson : goal.returns-in-NotJson

@@ -1,3 +1,4 @@
+-- Answers to the goals of `check_rules`: the rules and limits.
 use Rattle.checked_source.proofs.Leading.{rules_pass, rules_stop}
 use Rattle.checked_source.proofs.There.{asked_there}
 use Rattle.checked_source.proofs.source.check_rules.Goals as goal

@@ -1,3 +1,5 @@
+-- Answers to the goals of `check_source`: the typed program of a source, which has the function that is
+-- asked for.
 use Rattle.std.proofs.Common.{refl}
 use Rattle.checked_source.specs.Parts.{asking_of}
 use Rattle.checked_source.proofs.Leading.{source_stops, tree_leads}

@@ -1,3 +1,5 @@
+-- Answers to the goals of `check_tree`: the steps from the parameters' entries on, of a source that ends
+-- there.
 use Rattle.checked_source.specs.Parts.{asking_of}
 use Rattle.checked_source.proofs.Leading.{entries_lead, entries_stop}
 use Rattle.checked_source.proofs.source.check_tree.Goals as goal

@@ -1,3 +1,4 @@
+-- Answers to the goals of `entries_in`: the entries of the witnesses in a file.
 use Rattle.std.proofs.Common.{◌∙◌}
 use Rattle.checked_source.proofs.Leading.{witnesses_read, witnesses_stop}
 use Rattle.checked_source.proofs.witness.entries_in.Goals as goal

@@ -1,3 +1,4 @@
+-- Answers to the goals of `given_entries`: the same of a file that is given, and nothing where none is.
 use Rattle.std.proofs.Common.{ap}
 use Rattle.std.specs.Option.{option_copied}
 use Rattle.checked_source.proofs.Leading.{given_read, given_stop}

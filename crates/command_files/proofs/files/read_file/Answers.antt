@@ -1,3 +1,4 @@
+-- Answers to the goals of `read_file`: reads a file.
 use Rattle.command_files.specs.Reads.{file_of}
 use Rattle.command_files.proofs.Reading.{file_read, absent_stops, risen_stops, long_stops}
 use Rattle.command_files.proofs.files.read_file.Goals as goal

@@ -1,3 +1,4 @@
+-- Answers to the goals of `read_files`: reads files one after the other, up to the first that isn't read.
 use Rattle.std.proofs.Common.{refl}
 use Rattle.command_files.proofs.Reached.{more_reads, one_more, unread_stops}
 use Rattle.command_files.proofs.files.read_files.Goals as goal

@@ -1,3 +1,4 @@
+-- Invariants of `read_files`: reads files one after the other, up to the first that isn't read.
 use Rattle.command_files.specs.Reads.{texts_of}
 use Rattle.command_files.proofs.Reached.{Reached}
 use Rattle.command_files.proofs.files.read_files.Given as goal

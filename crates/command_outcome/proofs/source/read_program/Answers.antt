@@ -1,3 +1,4 @@
+-- Answers to the goals of `read_program`: the tree of a source.
 use Rattle.command_outcome.proofs.Sources.{no_text}
 use Rattle.command_outcome.proofs.source.read_program.Goals as goal
 

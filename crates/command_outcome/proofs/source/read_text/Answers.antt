@@ -1,3 +1,4 @@
+-- Answers to the goals of `read_text`: the tree of a source as text.
 use Rattle.std.proofs.Common.{refl}
 use Rattle.command_outcome.proofs.Sources.{first_fault, token_tree}
 use Rattle.command_outcome.proofs.source.read_text.Goals as goal

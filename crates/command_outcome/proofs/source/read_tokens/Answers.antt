@@ -1,3 +1,4 @@
+-- Answers to the goals of `read_tokens`: the tree of tokens, in a text of so many bytes.
 use Rattle.command_outcome.proofs.Sources.{dead_tokens, deep_tokens}
 use Rattle.command_outcome.proofs.source.read_tokens.Goals as goal
 

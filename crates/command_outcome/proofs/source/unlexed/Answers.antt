@@ -1,3 +1,4 @@
+-- Answers to the goals of `unlexed`: a fault of the tokens.
 use Rattle.command_outcome.proofs.source.unlexed.Goals as goal
 
 pub returns-in-BadCharacter : goal.returns-in-BadCharacter

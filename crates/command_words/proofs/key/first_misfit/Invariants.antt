@@ -1,3 +1,4 @@
+-- Invariants of `first_misfit`: the place of the first word that doesn't fit after those before it.
 use Rattle.std.proofs.Common.{◌≡◌}
 use Rattle.std.proofs.Math.ListN.{drop, take}
 use Rattle.command_words.specs.Keys.{first_misfit, misfit_after}

@@ -1,3 +1,4 @@
+-- Invariants of `value_of`: the first value that words give a key.
 use Rattle.std.proofs.Common.{◌≡◌}
 use Rattle.std.proofs.Math.ListN.{drop}
 use Rattle.command_words.specs.Keys.{value_of}

@@ -1,3 +1,4 @@
+-- Answers to the goals of `read_compact`: reads the value of a type whose compact code stands next.
 use Rattle.std.proofs.Common.{◌≡◌, ◌≤◌, length, arith}
 use Rattle.type_table.specs.Kinds.{kind_at}
 use Rattle.compact_codes.proofs.Codes.{read_if, ended_if}

@@ -1,3 +1,5 @@
+-- Answers to the goals of `read_first`: goes down to the first part of a type that is the unit type,
+-- gives that part's value, and leaves what is to be done with it.
 use Rattle.std.proofs.Common.{ap, sym, ◌∙◌}
 use Rattle.spelling.specs.Reading.{Refused, EndOfBits}
 use Rattle.cell_bits.specs.Places.{Place}

@@ -1,3 +1,5 @@
+-- Invariants of `read_first`: goes down to the first part of a type that is the unit type, gives that
+-- part's value, and leaves what is to be done with it.
 use Rattle.compact_codes.proofs.Frames.{Goes}
 use Rattle.compact_codes.proofs.read.read_first.Given as goal
 

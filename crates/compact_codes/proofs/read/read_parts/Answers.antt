@@ -1,3 +1,4 @@
+-- Answers to the goals of `read_parts`: reads a value of a type; after an error some of its bits may be read.
 use Rattle.std.proofs.Common.{refl, ap}
 use Rattle.core_data.specs.Data.{value_of}
 use Rattle.compact_codes.specs.Frames.{after, read_at}

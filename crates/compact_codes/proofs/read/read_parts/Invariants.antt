@@ -1,3 +1,4 @@
+-- Invariants of `read_parts`: reads a value of a type; after an error some of its bits may be read.
 use Rattle.core_data.specs.Data.{value_of}
 use Rattle.compact_codes.specs.Frames.{load}
 use Rattle.compact_codes.proofs.Frames.{Climbs}

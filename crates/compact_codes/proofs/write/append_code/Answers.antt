@@ -1,3 +1,5 @@
+-- Answers to the goals of `append_code`: appends the compact code of a value; after an error some of it
+-- may stand there.
 use Rattle.std.proofs.Common.{ap, sym, ◌∙◌, ◌∷◌, ◌++◌, true, false, length, take, arith}
 use Rattle.core_data.specs.Data.{value_of}
 use Rattle.core_data.specs.Loads.{load}

@@ -1,3 +1,5 @@
+-- Invariants of `append_code`: appends the compact code of a value; after an error some of it may stand
+-- there.
 use Rattle.std.proofs.Common.{◌≡◌, ◌++◌, length, take}
 use Rattle.core_data.specs.Data.{value_of}
 use Rattle.simplicity.specs.Types.{code}

@@ -1,3 +1,4 @@
+-- Answers to the goals of `cut_at`: shrinks a value to a type, or leaves the steps that do.
 use Rattle.core_data.specs.Steps.{stack_of}
 use Rattle.core_data.proofs.Stacks.{stack_of-push, unit_made, left_planned, right_planned, pair_planned}
 use Rattle.core_data.proofs.shrunk.cut_at.Goals as goal

@@ -1,3 +1,4 @@
+-- Invariants of `shrink`: the value with those parts cut that the type has as One.
 use Rattle.std.proofs.Common.{◌≡◌, [], ◌∷◌, Some}
 use Rattle.simplicity.specs.Types as core
 use Rattle.core_data.specs.Data.{kind_of, value_of}

@@ -1,3 +1,4 @@
+-- Answers to the goals of `given`: what the jet of a case gives; None where an argument is no word.
 use Rattle.std.proofs.Common.{lit<}
 use Rattle.word_math.specs.Op.{jet_of}
 use Rattle.core_rows.proofs.Called.{at_most_four, typed_words}

@@ -1,3 +1,4 @@
+-- Answers to the goals of `misses`: how many cases give other results than they say.
 use Rattle.std.proofs.Common.{arith, ◌<◌, length}
 use Rattle.core_rows.proofs.Called.{list_all-get_or}
 use Rattle.core_rows.proofs.formulas.misses.Goals as goal

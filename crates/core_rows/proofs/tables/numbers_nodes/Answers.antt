@@ -1,3 +1,4 @@
+-- Answers to the goals of `numbers_nodes` in `tables`.
 use Rattle.std.proofs.Common.{refl}
 use Rattle.simplicity.specs.Types.{One}
 use Rattle.term_core.proofs.Follow.{iden_follows, comp_follows}

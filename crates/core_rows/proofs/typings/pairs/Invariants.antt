@@ -1,3 +1,5 @@
+-- Invariants of `pairs`: an identity, so many nodes that each pair the one before with itself, and what
+-- drops the result.
 use Rattle.std.proofs.Common.{◌+◌}
 use Rattle.infer_cells.proofs.ShownLists.{AllShown}
 use Rattle.core_rows.proofs.typings.pairs.Given as goal

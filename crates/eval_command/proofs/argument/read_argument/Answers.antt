@@ -1,3 +1,4 @@
+-- Answers to the goals of `read_argument`: the argument of a type from its text, where one is given.
 use Rattle.std.proofs.Common.{ap}
 use Rattle.std.specs.Option.{option_copied}
 use Rattle.eval_command.proofs.Steps.{no_value_stops, value_read}

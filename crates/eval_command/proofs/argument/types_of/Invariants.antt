@@ -1,3 +1,4 @@
+-- Invariants of `types_of`: the types of parameters.
 use Rattle.std.proofs.Common.{◌≡◌, map}
 use Rattle.std.proofs.Math.ListN.{take}
 use Rattle.eval_command.proofs.argument.types_of.Given as goal

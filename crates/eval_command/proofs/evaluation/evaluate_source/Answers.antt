@@ -1,3 +1,4 @@
+-- Answers to the goals of `evaluate_source`: the line of the value that a function of a source gives.
 use Rattle.checked_source.specs.Parts.{asking_of}
 use Rattle.checked_source.specs.Steps.{IsCheckedSource}
 use Rattle.checked_source.proofs.Leading.{grows_checked}

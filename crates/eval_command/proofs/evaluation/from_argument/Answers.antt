@@ -1,3 +1,5 @@
+-- Answers to the goals of `from_argument`: the steps from the argument on, of a program that has the
+-- function, whose witnesses have values where it is `main`.
 use Rattle.std.proofs.Common.{◌∙◌, ap}
 use Rattle.hl_progress.specs.Calls.{argument_type}
 use Rattle.eval_command.proofs.Fits.{fits_call, missing_is}

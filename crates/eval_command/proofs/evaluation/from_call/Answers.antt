@@ -1,3 +1,5 @@
+-- Answers to the goals of `from_call`: the value of the function as a line, or that it fails, for an
+-- argument of its type.
 use Rattle.std.proofs.Common.{◌∙◌}
 use Rattle.eval_command.proofs.Steps.{value_given, failure_stops}
 use Rattle.eval_command.proofs.evaluation.from_call.Goals as goal

@@ -1,3 +1,5 @@
+-- Answers to the goals of `from_witnesses`: the steps from the witnesses' entries on, of a program that
+-- has the function.
 use Rattle.std.proofs.Common.{refl}
 use Rattle.std.specs.Option.{option_copied}
 use Rattle.checked_source.specs.Steps.{IsWitnesses, object_of, wanted}

@@ -1,3 +1,4 @@
+-- Invariants of `function_named`: the function of a name.
 use Rattle.std.proofs.Common.{◌≡◌}
 use Rattle.std.proofs.Math.ListN.{drop}
 use Rattle.hl_progress.specs.Calls.{function_of}

@@ -1,3 +1,5 @@
+-- Answers to the goals of `one_evaluation_law`: an evaluation has one status, one text for standard
+-- output and one for standard error.
 use Rattle.eval_command.proofs.One.{one_evaluation}
 use Rattle.eval_command.proofs.laws.one_evaluation_law.Goals as goal
 

@@ -1,3 +1,4 @@
+-- Answers to the goals of `pattern` in `patterns`.
 use Rattle.std.proofs.Common.{◌≡◌, true, false, arith}
 use Rattle.hl_grammar.specs.Read as read
 use Rattle.hl_bindings.proofs.Depth.{pattern_too_deep, pattern_dead, pattern_deeper}

@@ -1,3 +1,4 @@
+-- Measures of `pattern` in `patterns`.
 use Rattle.hl_bindings.proofs.patterns.+pattern.Given as goal
 
 abbrev pub decreases-pattern : goal.decreases-pattern

@@ -1,3 +1,4 @@
+-- Answers to the goals of `type_text` in `type_texts`.
 use Rattle.std.proofs.Common.{◌≡◌, true, false, arith}
 use Rattle.hl_grammar.specs.Read as read
 use Rattle.hl_bindings.proofs.Depth.{type_too_deep, type_dead, type_deeper}

@@ -1,3 +1,4 @@
+-- Answers to the goals of `alias`: what is known after an alias.
 use Rattle.hl_check.specs.Knowns.{known_of}
 use Rattle.hl_check.specs.declared.program.Walked.{Walked}
 use Rattle.hl_check.proofs.Whole.{alias_refused}

@@ -1,3 +1,5 @@
+-- Answers to the goals of `body_of`: the body of a function at the result's type, in a box, where the
+-- parameters are in scope; and the witnesses that were met up to its end.
 use Rattle.std.proofs.Common.{◌≡◌, ◌∙◌, ap, sym, refl, Ok, List}
 use Rattle.hl_syntax.specs.declared.kinds.TypedName.{TypedName}
 use Rattle.hl_syntax.specs.declared.rules.Rule.TheVariants.{K6}

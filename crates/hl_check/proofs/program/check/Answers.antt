@@ -1,3 +1,5 @@
+-- Answers to the goals of `check`: walks a program of an edition of the language, 1 or 2, of which the
+-- function `asked` is asked for.
 use Rattle.std.proofs.Common.{◌∙◌, ap, sym, subst, Bool, List, [], Ok, Err}
 use Rattle.hl_syntax.specs.declared.rules.Rule.TheVariants.{K20}
 use Rattle.hl_syntax.specs.declared.tree.Item.{Item}

@@ -1,3 +1,4 @@
+-- Invariants of `copy_names`: a copy of names with their types.
 use Rattle.std.proofs.Common.{◌≡◌, take}
 use Rattle.hl_check.proofs.program.copy_names.Given as goal
 

@@ -1,3 +1,5 @@
+-- Answers to the goals of `function`: a function's head, and then its body; and the witnesses that were
+-- met up to its end.
 use Rattle.std.proofs.Common.{◌≡◌, ◌∙◌, ap, sym, Ok, Result, List, ℕ}
 use Rattle.hl_syntax.specs.declared.kinds.TypedName.{TypedName}
 use Rattle.hl_data.specs.declared.typed.TypedExpr.{TypedExpr}

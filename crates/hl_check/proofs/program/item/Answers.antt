@@ -1,3 +1,4 @@
+-- Answers to the goals of `item`: what is known after one more item.
 use Rattle.std.proofs.Common.{◌∙◌, refl}
 use Rattle.hl_check.specs.Knowns.{known_of}
 use Rattle.hl_check.specs.declared.program.Walked.{Walked}

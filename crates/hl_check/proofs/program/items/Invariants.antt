@@ -1,3 +1,4 @@
+-- Invariants of `items`: the items, one after the other.
 use Rattle.std.proofs.Common.{◌≡◌, [], drop}
 use Rattle.hl_rules.specs.Programs.{items_walk}
 use Rattle.hl_check.specs.Knowns.{IsSoundKnown, known_of}

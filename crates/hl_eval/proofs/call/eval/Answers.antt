@@ -1,3 +1,5 @@
+-- Answers to the goals of `eval`: what a function of a program gives for an argument of its type: a
+-- value of the function's result type.
 use Rattle.std.proofs.Common.{◌∙◌}
 use Rattle.hl_eval.specs.Bindings.{bindings_of}
 use Rattle.hl_eval.proofs.Fitting.{never_stuck, of_result}

@@ -1,3 +1,4 @@
+-- Answers to the goals of `convert` in `conversion`.
 use Rattle.std.proofs.Common.{◌≡◌, true, subst}
 use Rattle.core_data.specs.Data.{value_of}
 use Rattle.hl_meaning.specs.Mean.{are_alike}

@@ -1,3 +1,4 @@
+-- Invariants of `copies` in `copy`.
 use Rattle.std.proofs.Common.{◌≡◌, take}
 use Rattle.hl_eval.proofs.copy.+copies.Given as goal
 

@@ -1,3 +1,4 @@
+-- Answers to the goals of `call_jet` in `jet_calls`.
 use Rattle.std.proofs.Common.{find, bytes_eq, option_map, ap, sym, ◌∙◌}
 use Rattle.jets.specs.Formula.{typed, numbers}
 use Rattle.jet_table.specs.Rows.{row_of}

@@ -1,3 +1,4 @@
+-- Answers to the goals of `words_of`: the arguments of a jet as words, one for each type that is there.
 use Rattle.std.proofs.Common.{◌∙◌}
 use Rattle.hl_eval.proofs.Counted.{words_more}
 use Rattle.hl_eval.proofs.jet_calls.words_of.Goals as goal

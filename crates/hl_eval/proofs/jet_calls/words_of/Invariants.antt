@@ -1,3 +1,4 @@
+-- Invariants of `words_of`: the arguments of a jet as words, one for each type that is there.
 use Rattle.hl_eval.proofs.Counted.{Words}
 use Rattle.hl_eval.proofs.jet_calls.words_of.Given as goal
 

@@ -1,3 +1,4 @@
+-- Answers to the goals of `of_type` in `of_type`.
 use Rattle.std.proofs.Common.{◌≡◌, ◌<◌, ◌&&◌, true, false, nat_lt, length, map, is_some, sym, ap, ◌∙◌, arith, lt-ltb}
 use denote.Param.Weighed.{at_most}
 use Rattle.hl_data.proofs.value.HlValue.TheLaws.{the_size}

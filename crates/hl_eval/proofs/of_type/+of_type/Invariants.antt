@@ -1,3 +1,4 @@
+-- Invariants of `of_type` in `of_type`.
 use Rattle.std.proofs.Common.{◌≡◌, map, drop, is_some}
 use Rattle.hl_meaning.specs.Values.{encoded, at_all, at_each}
 use Rattle.hl_eval.proofs.of_type.+of_type.Given as goal

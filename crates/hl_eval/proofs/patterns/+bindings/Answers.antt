@@ -1,3 +1,4 @@
+-- Answers to the goals of `bindings` in `patterns`.
 use Rattle.std.proofs.Common.{[], ◌∷◌, ◌≡◌, length, ap, sym, ◌∙◌, arith, length-append}
 use Rattle.hl_meaning.specs.Scopes.{bound}
 use Rattle.hl_eval.proofs.Exits.{leaves_exit}

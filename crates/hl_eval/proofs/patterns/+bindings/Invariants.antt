@@ -1,3 +1,4 @@
+-- Invariants of `bindings` in `patterns`.
 use Rattle.std.proofs.Common.{length}
 use Rattle.hl_meaning.specs.Scopes.{bound}
 use Rattle.hl_eval.proofs.Onto.{Rest}

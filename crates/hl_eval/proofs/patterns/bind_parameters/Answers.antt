@@ -1,3 +1,4 @@
+-- Answers to the goals of `bind_parameters` in `patterns`.
 use Rattle.std.proofs.Common.{[], ◌∷◌, ◌≡◌, length, Some, ap, sym, ◌∙◌, arith, length-append}
 use Rattle.hl_meaning.specs.Mean.{named}
 use Rattle.hl_eval.proofs.Onto.{rest_all, rest_next, rest_over, rest_short}

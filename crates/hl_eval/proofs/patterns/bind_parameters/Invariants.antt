@@ -1,3 +1,4 @@
+-- Invariants of `bind_parameters` in `patterns`.
 use Rattle.std.proofs.Common.{length}
 use Rattle.hl_meaning.specs.Mean.{named}
 use Rattle.hl_eval.proofs.Onto.{Rest}

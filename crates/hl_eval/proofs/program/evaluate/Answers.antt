@@ -1,3 +1,5 @@
+-- Answers to the goals of `evaluate`: what the function of a name gives for an argument: `()` for no
+-- parameter, the value itself for one, a tuple for more.
 use Rattle.std.proofs.Common.{ap, sym, ◌∙◌, subst}
 use Rattle.hl_meaning.specs.Answer.{shaped}
 use Rattle.hl_meaning.specs.Mean.{parts_of, meaning}

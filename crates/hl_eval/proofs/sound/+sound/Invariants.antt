@@ -1,3 +1,4 @@
+-- Invariants of `sound` in `sound`.
 use Rattle.std.proofs.Common.{◌≡◌, map, drop}
 use Rattle.std.specs.List.{list_all}
 use Rattle.simplicityhl.specs.Kinds.{is_sound}

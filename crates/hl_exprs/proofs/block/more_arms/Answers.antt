@@ -1,3 +1,4 @@
+-- Answers to the goals of `more_arms`: what stands after the opening brace of a match.
 use Rattle.std.proofs.Common.{suc, ◌+◌, ◌-◌, length, arith}
 use Rattle.std.proofs.lemmas.Grind.{common_steps}
 use Rattle.hl_grammar.specs.Readers.{turns}

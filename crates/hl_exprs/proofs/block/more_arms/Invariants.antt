@@ -1,3 +1,4 @@
+-- Invariants of `more_arms`: what stands after the opening brace of a match.
 use Rattle.std.proofs.Common.{◌≡◌, suc, ◌-◌, length}
 use Rattle.hl_grammar.specs.Readers.{turns}
 use Rattle.hl_grammar.specs.Read as read

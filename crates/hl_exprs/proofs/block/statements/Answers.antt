@@ -1,3 +1,4 @@
+-- Answers to the goals of `statements`: what stands after the opening brace of a block.
 use Rattle.std.proofs.Common.{suc, ◌+◌, ◌-◌, length, arith}
 use Rattle.std.proofs.lemmas.Grind.{common_steps}
 use Rattle.hl_grammar.specs.Readers.{turns}

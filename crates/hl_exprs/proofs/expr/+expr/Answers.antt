@@ -1,3 +1,4 @@
+-- Answers to the goals of `expr` in `expr`.
 use Rattle.std.proofs.Common.{◌≡◌, false, arith}
 use Rattle.hl_grammar.specs.Read as read
 use Rattle.hl_exprs.proofs.Depth.{expr_brink, expr_deeper}

@@ -1,3 +1,4 @@
+-- Measures of `expr` in `expr`.
 use Rattle.hl_exprs.proofs.expr.+expr.Given as goal
 
 abbrev pub decreases-expr : goal.decreases-expr

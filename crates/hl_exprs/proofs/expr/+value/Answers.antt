@@ -1,3 +1,5 @@
+-- Answers to the goals of `value`: a value text that is nested less than so deep: `depth` counts the
+-- expressions that stand in one another.
 use Rattle.std.proofs.Common.{◌≡◌, true, arith}
 use Rattle.hl_grammar.specs.Read as read
 use Rattle.hl_exprs.proofs.Depth.{expr_brink, expr_deeper}

@@ -1,3 +1,4 @@
+-- Answers to the goals of `form`: an expression without parentheses around it, by its alternative.
 use Rattle.hl_syntax.specs.declared.tree.ExprForm.TheVariants as exprs
 use Rattle.simplicityhl.specs.declared.alternatives.ExprAlternative.TheVariants as expr_as
 use Rattle.hl_grammar.specs.Read as read

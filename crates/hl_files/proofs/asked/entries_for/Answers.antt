@@ -1,3 +1,4 @@
+-- Answers to the goals of `entries_for`: the entries of wanted names.
 use Rattle.std.proofs.Common.{Some, refl}
 use Rattle.serde_json.specs.View.{view}
 use Rattle.hl_files.specs.declared.refusal.WantedRefusal.TheVariants.{OutOfMemory}

@@ -1,3 +1,4 @@
+-- Invariants of `entries_for`: the entries of wanted names.
 use Rattle.serde_json.specs.View.{view}
 use Rattle.hl_meaning.specs.Entries.{AreValued}
 use Rattle.hl_files.specs.Reads.{WantedAt}

@@ -1,3 +1,5 @@
+-- Answers to the goals of `read_wanted`: the entries of wanted names, each of the wanted type, in the
+-- names' order.
 use Rattle.serde_json.specs.View.{view}
 use Rattle.hl_files.proofs.Readings.{reads_wanted_from, names_are_wanted}
 use Rattle.hl_files.proofs.asked.read_wanted.Goals as goal

@@ -1,3 +1,4 @@
+-- Answers to the goals of `entries_at`: the entries of names that a file has.
 use Rattle.serde_json.specs.View.{view}
 use Rattle.hl_files.specs.declared.refusal.TextRefusal.TheVariants.{OutOfMemory}
 use Rattle.hl_files.specs.Reads.{FindsAt}

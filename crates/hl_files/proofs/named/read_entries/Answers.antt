@@ -1,3 +1,5 @@
+-- Answers to the goals of `read_entries`: the entries of these names that a data file has, in the names'
+-- order.
 use Rattle.serde_json.specs.View.{view}
 use Rattle.hl_files.proofs.Readings.{are_named, reads_from}
 use Rattle.hl_files.proofs.named.read_entries.Goals as goal

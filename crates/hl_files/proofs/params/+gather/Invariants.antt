@@ -1,3 +1,4 @@
+-- Invariants of `gather` in `params`.
 use Rattle.std.proofs.Common.{◌≡◌, map, drop}
 use Rattle.hl_files.specs.Params.{all_of, in_arm, in_expr, in_statement, with_names}
 use Rattle.hl_files.proofs.params.+gather.Given as goal

@@ -1,3 +1,5 @@
+-- Invariants of `param_names`: the names of the parameters that stand in a program, in any of its
+-- functions, each once and in the order in which they first stand.
 use Rattle.std.proofs.Common.{◌≡◌, drop}
 use Rattle.std.specs.Prelude.{flat_map}
 use Rattle.hl_files.specs.Params.{in_item, param_names, with_names}

@@ -1,3 +1,4 @@
+-- Answers to the goals of `type_and_text` in `texts`.
 use Rattle.serde_json.specs.View.{view}
 use Rattle.hl_files.proofs.Typing.{no_type_text}
 use Rattle.hl_files.proofs.texts.type_and_text.Goals as goal

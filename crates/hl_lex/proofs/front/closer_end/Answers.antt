@@ -1,3 +1,4 @@
+-- Answers to the goals of `closer_end`: the number of bytes up to and with the first `*/`.
 use Rattle.std.proofs.Common.{◌≡◌, ◌∙◌, rules, false, drop, nat_eq}
 use Rattle.std.specs.Prelude.{codes}
 use Rattle.std.specs.List.{starts_with}

@@ -1,3 +1,4 @@
+-- Invariants of `closer_end`: the number of bytes up to and with the first `*/`.
 use Rattle.std.proofs.Common.{◌≡◌, ◌+◌, drop}
 use Rattle.std.specs.Prelude.{option_map}
 use Rattle.simplicityhl.specs.Tokens.{closer_end}

@@ -1,3 +1,4 @@
+-- Invariants of `line_size`: the number of bytes before the first line feed, or of all.
 use Rattle.std.proofs.Common.{◌≡◌, ◌+◌, drop}
 use Rattle.std.specs.List.{prefix_len}
 use Rattle.simplicityhl.specs.Tokens.{is_no_line_feed}

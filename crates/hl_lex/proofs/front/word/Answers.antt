@@ -1,3 +1,4 @@
+-- Answers to the goals of `word`: the word at the front of a text.
 use Rattle.std.proofs.Common.{◌≡◌, List, ℕ, take, sym, ◌∙◌, ap, subst}
 use Rattle.std.specs.Prelude.{IsUtf8}
 use Rattle.std.specs.List.{prefix_len}

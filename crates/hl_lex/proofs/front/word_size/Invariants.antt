@@ -1,3 +1,4 @@
+-- Invariants of `word_size`: the number of bytes of the word at the front of a text.
 use Rattle.std.proofs.Common.{◌≡◌, ◌+◌, drop}
 use Rattle.std.specs.List.{prefix_len}
 use Rattle.simplicityhl.specs.Tokens.{is_word_byte}

@@ -1,3 +1,5 @@
+-- Answers to the goals of `step`: reads what stands at a place, puts a token at the end of the list, and
+-- gives the place after it.
 use Rattle.std.proofs.Common.{◌≡◌, sym, ◌∙◌, ap, ℕ, ◌+◌, List, [], ◌∷◌, ◌++◌, drop}
 use Rattle.hl_syntax.specs.declared.token.Token.{Token}
 use Rattle.hl_syntax.specs.declared.token.TokenKind.{TokenKind}

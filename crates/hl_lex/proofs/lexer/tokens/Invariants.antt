@@ -1,3 +1,5 @@
+-- Invariants of `tokens`: the tokens of a text, each with the bytes that it takes up, or the text's
+-- first fault.
 use Rattle.std.proofs.Common.{◌≡◌, ◌-◌, ◌≤◌, drop, length}
 use Rattle.simplicityhl.specs.Tokens.{tokens, tokens_after}
 use Rattle.hl_lex.specs.Lexes.{tokens_then}

@@ -1,3 +1,4 @@
+-- Answers to the goals of `decimal_fits` in `literal`.
 use Rattle.std.proofs.Common.{rules, [], ◌≡◌, ◌<◌, ◌≤◌, ◌+◌, ◌*◌, ◌-◌, ℕ, true, length, drop, get_or, arith, sym, ◌∙◌}
 use Rattle.std.specs.Prelude.{filter}
 use Rattle.std.specs.Char.{is_ascii_digit}

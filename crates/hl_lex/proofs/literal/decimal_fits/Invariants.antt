@@ -1,3 +1,4 @@
+-- Invariants of `decimal_fits` in `literal`.
 use Rattle.std.proofs.Common.{◌≡◌, ◌<◌, ◌^◌, drop}
 use Rattle.simplicityhl.specs.Tokens.{decimal_value}
 use Rattle.hl_lex.proofs.Decimals.{decimal_from}

@@ -1,3 +1,4 @@
+-- Answers to the goals of `based_number`: the number that digits of a base spell, `_` between them left out.
 use Rattle.hl_literals.proofs.Spelling.{past_read}
 use Rattle.hl_literals.proofs.literal.based_number.Goals as goal
 

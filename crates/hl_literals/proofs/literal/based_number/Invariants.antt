@@ -1,3 +1,4 @@
+-- Invariants of `based_number`: the number that digits of a base spell, `_` between them left out.
 use Rattle.std.proofs.Common.{◌≡◌, drop}
 use Rattle.hl_meaning.specs.Literals.{based_value}
 use Rattle.hl_literals.specs.Wide.{number_of}

@@ -1,3 +1,4 @@
+-- Answers to the goals of `literal_number`: the number that a literal spells.
 use Rattle.std.proofs.Common.{sym, ◌∙◌}
 use Rattle.hl_literals.proofs.Spelling.{decimal_spelled}
 use Rattle.hl_literals.proofs.literal.literal_number.Goals as goal

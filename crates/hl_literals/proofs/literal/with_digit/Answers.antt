@@ -1,3 +1,4 @@
+-- Answers to the goals of `with_digit`: a number with a digit after its own.
 use Rattle.std.proofs.Common.{refl}
 use Rattle.hl_literals.proofs.Spelling.{digit_found, digit_none}
 use Rattle.hl_literals.proofs.literal.with_digit.Goals as goal

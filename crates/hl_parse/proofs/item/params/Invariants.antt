@@ -1,3 +1,4 @@
+-- Invariants of `params`: parameters, and the parenthesis after them.
 use Rattle.std.proofs.Common.{◌≡◌, suc, ◌-◌, length}
 use Rattle.hl_syntax.specs.declared.token.Symbol.TheVariants.{CloseParenthesis}
 use Rattle.hl_grammar.specs.Readers.{turns}

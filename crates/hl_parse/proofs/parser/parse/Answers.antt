@@ -1,3 +1,4 @@
+-- Answers to the goals of `parse`: the program that the tokens of a text are.
 use Rattle.std.proofs.Common.{arith}
 use Rattle.simplicityhl.specs.Grammar as grammar
 use Rattle.simplicityhl.specs.Grammar.{most_depth}

@@ -1,3 +1,5 @@
+-- Answers to the goals of `parse_value`: the value text that the tokens of a text are: an expression of
+-- literals, truth values, tuples, arrays, `list!`, `Left`, `Right`, `Some` and `None` alone.
 use Rattle.std.proofs.Common.{true, arith}
 use Rattle.simplicityhl.specs.Grammar as grammar
 use Rattle.simplicityhl.specs.Grammar.{most_depth}

@@ -1,3 +1,4 @@
+-- Invariants of `patterns` in `copies`.
 use Rattle.std.proofs.Common.{◌≡◌, take}
 use Rattle.hl_scope.proofs.copies.+patterns.Given as goal
 

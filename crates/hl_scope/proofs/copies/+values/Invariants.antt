@@ -1,3 +1,4 @@
+-- Invariants of `values` in `copies`.
 use Rattle.std.proofs.Common.{◌≡◌, take}
 use Rattle.hl_scope.proofs.copies.+values.Given as goal
 

@@ -1,3 +1,4 @@
+-- Invariants of `params`: the parameters of a function with their types.
 use Rattle.std.proofs.Common.{◌≡◌, [], drop}
 use Rattle.hl_types.specs.Walks.{AreSound}
 use Rattle.hl_rules.specs.Declared.{params_walk}

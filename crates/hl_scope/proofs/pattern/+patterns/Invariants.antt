@@ -1,3 +1,4 @@
+-- Invariants of `patterns` in `pattern`.
 use Rattle.std.proofs.Common.{◌≡◌, drop, map}
 use Rattle.hl_rules.specs.Patterns.{pattern_walk, patterns_walk, items_walk}
 use Rattle.hl_scope.proofs.pattern.+patterns.Given as goal

@@ -1,3 +1,4 @@
+-- Answers to the goals of `jet_row`: the row of a jet.
 use Rattle.std.proofs.Common.{◌∙◌, ap, refl, Some}
 use Rattle.jet_table.specs.Rows.{row_of}
 use Rattle.hl_scope.proofs.Rising.{jet_found, jet_absent, jet_sound}

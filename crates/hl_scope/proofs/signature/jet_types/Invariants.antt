@@ -1,3 +1,4 @@
+-- Invariants of `jet_types`: the source types that are there.
 use Rattle.std.proofs.Common.{◌≡◌, ◌++◌, drop, map}
 use Rattle.jet_table.specs.Rows.{kinds_of}
 use Rattle.hl_rules.specs.Exprs.{jet_type}

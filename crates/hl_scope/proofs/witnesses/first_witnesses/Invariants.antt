@@ -1,3 +1,4 @@
+-- Invariants of `first_witnesses`: each witness at its first place alone.
 use Rattle.std.proofs.Common.{◌≡◌, [], length}
 use Rattle.std.specs.Vec.Iter.{into_iter_items, into_iter_len}
 use Rattle.hl_rules.specs.Witnesses.{first_witnesses}

@@ -1,3 +1,4 @@
+-- Answers to the goals of `read_type`: the type that a type text is.
 use Rattle.hl_type_texts.proofs.Typing.{type_answered, tree_refused}
 use Rattle.hl_type_texts.proofs.text.read_type.Goals as goal
 

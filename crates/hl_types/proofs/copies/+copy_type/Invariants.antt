@@ -1,3 +1,4 @@
+-- Invariants of `copy_type`: a copy of a type.
 use Rattle.std.proofs.Common.{◌≡◌, take}
 use Rattle.hl_types.proofs.copies.+copy_type.Given as goal
 

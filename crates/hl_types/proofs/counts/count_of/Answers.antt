@@ -1,3 +1,4 @@
+-- Answers to the goals of `count_of`: the number that a word's digits spell, or 65,537 where it is more.
 use Rattle.std.proofs.Common.{◌≡◌, refl, ◌<◌, ◌+◌, ◌*◌, ◌-◌, min, true, false, length, get_or, arith, sym, ◌∙◌}
 use Rattle.std.specs.Char.{is_ascii_digit}
 use Rattle.simplicityhl.specs.Tokens.{decimal_value}

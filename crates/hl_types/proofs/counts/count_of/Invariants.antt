@@ -1,3 +1,4 @@
+-- Invariants of `count_of`: the number that a word's digits spell, or 65,537 where it is more.
 use Rattle.std.proofs.Common.{◌≡◌, ◌≤◌, min, drop}
 use Rattle.simplicityhl.specs.Tokens.{decimal_value}
 use Rattle.hl_types.proofs.Decimals.{most, decimal_from}

@@ -1,3 +1,4 @@
+-- Answers to the goals of `copies_form` in `forms`.
 use Rattle.std.proofs.Common.{arith}
 use Rattle.hl_types.proofs.Halves.{copies_even, copies_both}
 use Rattle.hl_types.proofs.forms.+copies_form.Goals as goal

@@ -1,3 +1,4 @@
+-- Answers to the goals of `list_form` in `forms`.
 use Rattle.std.proofs.Common.{arith}
 use Rattle.hl_types.proofs.Halves.{list_next, shifted}
 use Rattle.hl_types.proofs.forms.+list_form.Goals as goal

@@ -1,3 +1,4 @@
+-- Answers to the goals of `tuple_form` in `forms`.
 use Rattle.std.proofs.Common.{arith}
 use Rattle.hl_types.proofs.Halves.{below_take, below_drop, below_more, tuple_both}
 use Rattle.type_table.proofs.Growth.{grown_length}

@@ -1,3 +1,4 @@
+-- Measures of `tuple_form` in `forms`.
 use Rattle.std.proofs.Common.{length}
 use Rattle.hl_types.proofs.forms.+tuple_form.Given as goal
 

@@ -1,3 +1,4 @@
+-- Answers to the goals of `structure`: the id of a type's form, the core type that its values are encoded in.
 use Rattle.std.proofs.Common.{arith, refl, ap, length, map, IsTrue}
 use Rattle.hl_syntax.specs.declared.kinds.HlType.TheVariants as kind
 use Rattle.simplicityhl.specs.Kinds.{form}

@@ -1,3 +1,4 @@
+-- Invariants of `structure`: the id of a type's form, the core type that its values are encoded in.
 use Rattle.std.proofs.Common.{◌≡◌, ◌<◌, ◌++◌, length, map, drop, IsTrue}
 use Rattle.std.specs.List.{list_all}
 use Rattle.simplicityhl.specs.Kinds.{form}

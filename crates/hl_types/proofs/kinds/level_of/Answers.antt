@@ -1,3 +1,4 @@
+-- Answers to the goals of `level_of`: the level of a list's bound: 2 ^ (k + 1) has level k.
 use Rattle.std.proofs.Common.{arith}
 use Rattle.hl_types.proofs.Parts.{bound_parts, level_at}
 use Rattle.hl_types.proofs.kinds.level_of.Goals as goal

@@ -1,3 +1,4 @@
+-- Answers to the goals of `same_type`: whether two types are the same as written out without aliases.
 use Rattle.std.proofs.Common.{◌≡◌, ◌≢◌, refl, ◌≤◌, ◌<◌, ◌+◌, true, false, ◌&&◌, length, map, get_or, sym, ap, ◌∙◌, arith}
 use Rattle.std.proofs.lemmas.List.{length-map, take_more}
 use Rattle.std.proofs.lemmas.Option.{get_or_from_slice_get}

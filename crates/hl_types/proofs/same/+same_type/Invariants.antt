@@ -1,3 +1,4 @@
+-- Invariants of `same_type`: whether two types are the same as written out without aliases.
 use Rattle.std.proofs.Common.{◌≡◌, take}
 use Rattle.simplicityhl.specs.Same.{same_type}
 use Rattle.hl_types.proofs.Equal.{left_same}

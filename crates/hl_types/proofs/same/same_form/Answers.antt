@@ -1,3 +1,4 @@
+-- Answers to the goals of `same_form`: whether the forms of two types are the same.
 use Rattle.simplicityhl.specs.Kinds.{form}
 use Rattle.hl_types.proofs.Alike.{ids_same}
 use Rattle.hl_types.proofs.same.same_form.Goals as goal

@@ -1,3 +1,4 @@
+-- Answers to the goals of `resolve`: the type that a written type stands for, after the aliases before it.
 use Rattle.std.proofs.Common.{[], ◌∷◌, map}
 use Rattle.std.proofs.lemmas.List.Elements.{All-append}
 use Rattle.simplicityhl.specs.Kinds.{IsSound}

@@ -1,3 +1,4 @@
+-- Invariants of `resolve`: the type that a written type stands for, after the aliases before it.
 use Rattle.std.proofs.Common.{◌≡◌, map, drop}
 use Rattle.std.specs.List.{All}
 use Rattle.simplicityhl.specs.Kinds.{IsSound}

@@ -1,3 +1,4 @@
+-- Answers to the goals of `decode` in `decode`.
 use Rattle.std.proofs.Common.{◌<◌, length, arith, ap, refl}
 use denote.Param.Weighed.{at_most}
 use Rattle.hl_syntax.specs.declared.kinds.HlType.{size-HlType}

@@ -1,3 +1,4 @@
+-- Invariants of `decode` in `decode`.
 use Rattle.std.proofs.Common.{◌+◌, ◌*◌}
 use denote.Param.Weighed.{most}
 use Rattle.hl_syntax.specs.declared.kinds.HlType.{size-HlType}

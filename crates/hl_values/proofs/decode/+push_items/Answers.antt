@@ -1,3 +1,4 @@
+-- Answers to the goals of `push_items`: puts the items of a list at a level at the end.
 use Rattle.std.proofs.Common.{arith, ◌≡◌, refl}
 use Rattle.core_data.specs.Data.{value_of}
 use Rattle.simplicity.specs.Types.{Pair, Inr}

@@ -1,3 +1,5 @@
+-- Answers to the goals of `push_parts`: puts the parts of a tuple by halves, of which there are so many,
+-- at the end.
 use Rattle.std.proofs.Common.{arith, ◌≡◌, refl}
 use Rattle.core_data.specs.Data.{value_of}
 use Rattle.simplicity.specs.Types.{Pair}

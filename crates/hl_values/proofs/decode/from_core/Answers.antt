@@ -1,3 +1,4 @@
+-- Answers to the goals of `from_core`: the value that is encoded in a core value of the type's form.
 use Rattle.core_data.specs.Data.{value_of}
 use Rattle.hl_values.proofs.Coding.{sound_good}
 use Rattle.hl_values.proofs.decode.from_core.Goals as goal

@@ -1,3 +1,4 @@
+-- Answers to the goals of `truth`: the truth value that a bit is.
 use Rattle.std.proofs.Common.{ap}
 use Rattle.simplicity.specs.Types.{Inl, Inr}
 use Rattle.hl_values.proofs.Codecs.{one_parts}

@@ -1,3 +1,4 @@
+-- Answers to the goals of `word_of`: the word of a width that a core value is.
 use Rattle.hl_values.proofs.Decoding.{no_word, word_found}
 use Rattle.hl_values.proofs.decode.word_of.Goals as goal
 

@@ -1,3 +1,4 @@
+-- Answers to the goals of `encode` in `encode`.
 use Rattle.std.proofs.Common.{◌≡◌, ◌<◌, length, map, arith}
 use Rattle.hl_meaning.specs.Values.{encoded, at_each}
 use denote.Param.Weighed.{at_most}

@@ -1,3 +1,4 @@
+-- Invariants of `encode` in `encode`.
 use Rattle.std.proofs.Common.{◌≡◌, map, drop}
 use Rattle.hl_meaning.specs.Values.{encoded, at_all, at_each}
 use Rattle.hl_values.proofs.Encoding.{ahead}

@@ -1,3 +1,4 @@
+-- Answers to the goals of `list_level` in `encode`.
 use Rattle.std.proofs.Common.{arith}
 use Rattle.hl_types.proofs.Parts.{bound_parts, level_at}
 use Rattle.hl_values.proofs.encode.list_level.Goals as goal

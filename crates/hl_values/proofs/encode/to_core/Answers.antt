@@ -1,3 +1,4 @@
+-- Answers to the goals of `to_core`: the core value that a value is encoded in at its type.
 use Rattle.core_data.specs.Data.{value_of}
 use Rattle.hl_values.proofs.Coding.{sound_good}
 use Rattle.hl_values.proofs.encode.to_core.Goals as goal

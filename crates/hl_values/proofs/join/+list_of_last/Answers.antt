@@ -1,3 +1,4 @@
+-- Answers to the goals of `list_of_last` in `join`.
 use Rattle.std.proofs.Common.{arith, ◌^◌, ◌<◌, ◌≤◌, ap, ◌∙◌}
 use Rattle.core_data.specs.Data.{value_of}
 use Rattle.simplicity.specs.Types.{Pair}

@@ -1,3 +1,4 @@
+-- Answers to the goals of `tuple_of_last` in `join`.
 use Rattle.std.proofs.Common.{arith}
 use Rattle.hl_values.proofs.Lasts.{left_length, one_last, both_last}
 use Rattle.hl_values.proofs.join.+tuple_of_last.Goals as goal

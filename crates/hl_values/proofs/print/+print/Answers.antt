@@ -1,3 +1,4 @@
+-- Answers to the goals of `print` in `print`.
 use Rattle.hl_values.proofs.Printing.{value_written}
 use Rattle.hl_values.proofs.print.+print.Goals as goal
 

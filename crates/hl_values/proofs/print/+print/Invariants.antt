@@ -1,3 +1,4 @@
+-- Invariants of `print` in `print`.
 use Rattle.std.proofs.Common.{◌≡◌, ◌++◌, map, take}
 use Rattle.std.specs.Prelude.{string_bytes}
 use Rattle.hl_values.specs.Printed.{joined, printed}

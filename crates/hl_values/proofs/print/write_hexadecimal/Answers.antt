@@ -1,3 +1,4 @@
+-- Answers to the goals of `write_hexadecimal`: the 32 hexadecimal digits of a number.
 use Rattle.std.proofs.Common.{◌++◌, [], ◌∷◌, ap, ◌∙◌}
 use Rattle.std.specs.Prelude.{string_bytes}
 use Rattle.hl_values.proofs.Printing.{digit_written, digit_small}

@@ -1,3 +1,4 @@
+-- Invariants of `write_hexadecimal`: the 32 hexadecimal digits of a number.
 use Rattle.std.proofs.Common.{◌≡◌, ◌-◌, ◌++◌}
 use Rattle.std.specs.Prelude.{string_bytes}
 use Rattle.hl_values.specs.Printed.{hexadecimal}

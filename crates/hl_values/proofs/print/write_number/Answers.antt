@@ -1,3 +1,4 @@
+-- Answers to the goals of `write_number`: a number in decimal, or of 256 bits as `0x` and 64 digits.
 use Rattle.std.proofs.Common.{sym, ◌∙◌}
 use Rattle.hl_values.proofs.Printing.{wide_written}
 use Rattle.hl_values.proofs.print.write_number.Goals as goal

@@ -1,3 +1,4 @@
+-- Answers to the goals of `lexed`: the tokens of a text.
 use Rattle.hl_values.proofs.Texts.{no_tokens}
 use Rattle.hl_values.proofs.read.lexed.Goals as goal
 

@@ -1,3 +1,4 @@
+-- Answers to the goals of `parsed`: the tree of a value text's tokens.
 use Rattle.hl_values.proofs.read.parsed.Goals as goal
 
 pub returns-in-Err-Syntax : goal.returns-in-Err-Syntax

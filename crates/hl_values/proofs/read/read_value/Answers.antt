@@ -1,3 +1,4 @@
+-- Answers to the goals of `read_value`: the value of the type that a text is.
 use Rattle.hl_values.proofs.OfKind.{of_kind}
 use Rattle.hl_values.proofs.Texts.{value_found, value_refused_at, text_refused}
 use Rattle.hl_values.proofs.read.read_value.Goals as goal

@@ -1,3 +1,4 @@
+-- Answers to the goals of `tree_of`: the tree of a value text.
 use Rattle.hl_values.proofs.Texts.{tree_refused_at}
 use Rattle.hl_values.proofs.read.tree_of.Goals as goal
 

@@ -1,3 +1,4 @@
+-- Answers to the goals of `written` in `written`.
 use Rattle.std.proofs.Common.{◌<◌, length, map, arith}
 use denote.Param.Weighed.{at_most}
 use Rattle.hl_syntax.specs.declared.tree.Expr.{size-Expr}

@@ -1,3 +1,4 @@
+-- Invariants of `written` in `written`.
 use Rattle.std.proofs.Common.{◌≡◌, map, drop}
 use Rattle.hl_values.specs.Written.{written, all_at, each_at}
 use Rattle.hl_values.proofs.Reading.{ahead}

@@ -1,3 +1,4 @@
+-- Answers to the goals of `constrain` in `constrain`.
 use Rattle.std.proofs.Common.{arith, max}
 use Rattle.infer_cells.proofs.Constraint.{constrains_none, finish, finish_none, finish_within}
 use Rattle.infer_cells.proofs.Steps.{on_no_typing}

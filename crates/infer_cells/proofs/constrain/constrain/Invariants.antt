@@ -1,3 +1,4 @@
+-- Invariants of `constrain` in `constrain`.
 use Rattle.std.proofs.Common.{◌≡◌, [], max}
 use Rattle.infer_cells.proofs.Constraint.{Constrains}
 use Rattle.infer_cells.proofs.constrain.constrain.Given as goal

@@ -1,3 +1,4 @@
+-- Answers to the goals of `emit_word`: the type of a word, by doubling from a bit.
 use Rattle.std.proofs.Common.{arith}
 use Rattle.infer_cells.proofs.Doubles.{word_next}
 use Rattle.infer_cells.proofs.emit.emit_word.Goals as goal

@@ -1,3 +1,4 @@
+-- Invariants of `emit_word`: the type of a word, by doubling from a bit.
 use Rattle.std.proofs.Common.{◌≡◌, ◌+◌, ◌++◌, length}
 use Rattle.infer_cells.specs.Emission.{word_cells}
 use Rattle.infer_cells.proofs.emit.emit_word.Given as goal

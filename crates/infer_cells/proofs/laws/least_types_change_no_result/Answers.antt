@@ -1,3 +1,5 @@
+-- Answers to the goals of `least_types_change_no_result`: the least types with an arrow at the root
+-- change no result.
 use Rattle.infer_cells.proofs.Shrunk.{same_result}
 use Rattle.infer_cells.proofs.laws.least_types_change_no_result.Goals as goal
 

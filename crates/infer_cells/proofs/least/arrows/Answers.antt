@@ -1,3 +1,4 @@
+-- Answers to the goals of `arrows`: the arrows of places, by the ids of their cells.
 use Rattle.infer_cells.proofs.Listed.{item_within}
 use Rattle.infer_cells.proofs.least.arrows.Goals as goal
 

@@ -1,3 +1,4 @@
+-- Invariants of `arrows`: the arrows of places, by the ids of their cells.
 use Rattle.std.proofs.Common.{◌≡◌, map, take}
 use Rattle.infer_cells.specs.Ids.{id_arrow}
 use Rattle.infer_cells.proofs.least.arrows.Given as goal

@@ -1,3 +1,4 @@
+-- Answers to the goals of `is_light`: whether no type of a typing has a tree of more than 4,194,304 nodes.
 use Rattle.std.proofs.Common.{None, arith, length, ap, refl}
 use Rattle.simplicity.specs.Limits.{most_weight}
 use Rattle.infer_cells.proofs.Listed.{bound_at, light_next, light_at}

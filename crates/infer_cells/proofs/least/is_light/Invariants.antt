@@ -1,3 +1,4 @@
+-- Invariants of `is_light`: whether no type of a typing has a tree of more than 4,194,304 nodes.
 use Rattle.std.proofs.Common.{take}
 use Rattle.simplicity.specs.Typing.{IsLight}
 use Rattle.simplicity.specs.Limits.{most_weight}

@@ -1,3 +1,4 @@
+-- Answers to the goals of `least_typing`: the least typing, whatever its types' weights are.
 use Rattle.infer_cells.proofs.Listed.{ids_least, ids_within}
 use Rattle.infer_cells.proofs.least.least_typing.Goals as goal
 

@@ -1,3 +1,4 @@
+-- Answers to the goals of `find`: the cell at the end of the links from a cell.
 use Rattle.std.proofs.Common.{◌<◌, ◌∙◌, sym, arith}
 use Rattle.infer_cells.proofs.Steps.{follow_less, follow_same}
 use Rattle.infer_cells.proofs.unify.find.Goals as goal

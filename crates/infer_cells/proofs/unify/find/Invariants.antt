@@ -1,3 +1,4 @@
+-- Invariants of `find`: the cell at the end of the links from a cell.
 use Rattle.std.proofs.Common.{◌≡◌, ◌<◌, length}
 use Rattle.infer_cells.specs.Cells.{Assignment, FitFrom}
 use Rattle.infer_cells.proofs.unify.find.Given as goal

@@ -1,3 +1,4 @@
+-- Answers to the goals of `link`: links a cell to one of a lower number, which takes what both hold.
 use Rattle.std.proofs.Common.{arith}
 use Rattle.std.proofs.lemmas.Option.{slice_get_within}
 use Rattle.infer_cells.proofs.Linked.{link_same, link_none, link_placed, link_within, link_less}

@@ -1,3 +1,4 @@
+-- Answers to the goals of `solve` in `unify`.
 use Rattle.std.proofs.Common.{◌∙◌}
 use Rattle.infer_cells.proofs.Steps.{on_no_typing, same_through, none_through, turned, within_last, pop_less}
 use Rattle.infer_cells.proofs.unify.solve.Goals as goal

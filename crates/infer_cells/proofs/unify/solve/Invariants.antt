@@ -1,3 +1,4 @@
+-- Invariants of `solve` in `unify`.
 use Rattle.std.proofs.Common.{◌≡◌, length}
 use Rattle.infer_cells.specs.Cells.{SameSolutions, ArePlaced, AreWithin, load}
 use Rattle.infer_cells.proofs.unify.solve.Given as goal

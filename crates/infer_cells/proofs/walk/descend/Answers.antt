@@ -1,3 +1,5 @@
+-- Answers to the goals of `descend`: goes on from a cell to a part of it, which must not be on the path
+-- already.
 use Rattle.std.proofs.Common.{◌∙◌, sym}
 use Rattle.infer_cells.proofs.Paths.{cell_there}
 use Rattle.infer_cells.proofs.walk.descend.Goals as goal

@@ -1,3 +1,4 @@
+-- Answers to the goals of `make`: the id of a cell's least type, from those of its parts.
 use Rattle.infer_cells.proofs.Paths.{cell_there, made_free, made_one, made_link, made_sum, made_product}
 use Rattle.infer_cells.proofs.walk.make.Goals as goal
 

@@ -1,3 +1,4 @@
+-- Invariants of `new_marks`: so many marks, all new.
 use Rattle.std.proofs.Common.{◌≡◌, ℕ, length, Some, slice_get}
 use Rattle.infer_cells.specs.declared.walk.Mark.{Mark}
 use Rattle.infer_cells.specs.declared.walk.Mark.TheVariants as mark

@@ -1,3 +1,4 @@
+-- Answers to the goals of `next_part`: the first part of a cell that has no id yet.
 use Rattle.std.proofs.Common.{length}
 use Rattle.infer_cells.proofs.Paths.{parts_link, parts_sum, parts_product}
 use Rattle.infer_cells.proofs.walk.next_part.Goals as goal

@@ -1,3 +1,4 @@
+-- Answers to the goals of `type_cells` in `walk`.
 use Rattle.std.proofs.Common.{arith, length, length-append, ◌∷◌, [], ap}
 use Rattle.type_table.proofs.Growth.{grown_through}
 use Rattle.infer_cells.proofs.Paths.{one_id_more}

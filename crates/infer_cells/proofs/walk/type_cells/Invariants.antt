@@ -1,3 +1,4 @@
+-- Invariants of `type_cells` in `walk`.
 use Rattle.std.proofs.Common.{◌≡◌, ℕ, length, Some, slice_get}
 use Rattle.type_table.specs.Kinds.{IsGrown}
 use Rattle.infer_cells.specs.declared.walk.Mark.TheVariants as mark

@@ -1,3 +1,5 @@
+-- Answers to the goals of `type_of`: the id of one cell's least type, by a walk along its parts whose
+-- path is a list.
 use Rattle.std.proofs.Common.{arith, rules, sym, [], ◌≡◌, ◌∙◌, ◌<◌, length}
 use Rattle.infer_cells.proofs.Paths.{cell_there, top_within, done_not}
 use Rattle.infer_cells.proofs.walk.type_of.Goals as goal

@@ -1,3 +1,4 @@
+-- Invariants of `type_of`: the id of one cell's least type, by a walk along its parts whose path is a list.
 use Rattle.std.proofs.Common.{◌⊎◌}
 use Rattle.type_table.specs.Kinds.{IsGrown}
 use Rattle.infer_cells.specs.Walk.{IsWalk, Has, IsDone, walk_load}

@@ -1,3 +1,5 @@
+-- Answers to the goals of `visit`: goes on from the path's last cell, which was taken off it: to a part
+-- that has no id yet, or back once all have theirs.
 use Rattle.std.proofs.Common.{arith}
 use Rattle.std.proofs.lemmas.Option.{slice_get-get_or}
 use Rattle.infer_cells.proofs.Paths.{part_within, part_in, part_at, ready_at, walk_none, walk_down, down_kept, down_less, walk_back, back_kept, back_less}

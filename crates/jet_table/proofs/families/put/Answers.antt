@@ -1,3 +1,4 @@
+-- Answers to the goals of `put`: writes the rows of a family from a place on, and gives the place after them.
 use Rattle.std.proofs.Common.{take, ap, ◌∙◌}
 use Rattle.std.proofs.lemmas.List.{map-append}
 use Rattle.jet_table.specs.Rows.{row_of, rows_of}

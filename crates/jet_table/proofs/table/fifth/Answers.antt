@@ -1,3 +1,4 @@
+-- Answers to the goals of `fifth`: from `lt` to `multiply`.
 use Rattle.jet_table.proofs.Written.{seven_in_turn}
 use Rattle.jet_table.proofs.table.fifth.Goals as goal
 

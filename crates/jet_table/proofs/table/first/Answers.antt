@@ -1,3 +1,4 @@
+-- Answers to the goals of `first`: from `add` to `div_mod`.
 use Rattle.jet_table.proofs.Written.{seven_in_turn}
 use Rattle.jet_table.proofs.table.first.Goals as goal
 

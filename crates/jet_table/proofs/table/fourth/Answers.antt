@@ -1,3 +1,4 @@
+-- Answers to the goals of `fourth`: from `left_pad_high` to `low`.
 use Rattle.jet_table.proofs.Written.{seven_in_turn}
 use Rattle.jet_table.proofs.table.fourth.Goals as goal
 

@@ -1,3 +1,4 @@
+-- Answers to the goals of `profile`: all jets of the language, in the order of their names' bytes.
 use Rattle.std.proofs.Common.{rules, ◌≡◌, ◌≤◌, [], length, sym, ap, ◌∙◌, arith}
 use Rattle.std.proofs.lemmas.List.{take_all}
 use Rattle.jet_table.specs.Rows.{rows_of}

@@ -1,3 +1,4 @@
+-- Answers to the goals of `second`: from `divide` to `full_multiply`.
 use Rattle.jet_table.proofs.Written.{seven_in_turn}
 use Rattle.jet_table.proofs.table.second.Goals as goal
 

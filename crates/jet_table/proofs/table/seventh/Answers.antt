@@ -1,3 +1,4 @@
+-- Answers to the goals of `seventh`: from `right_shift_with` to `xor_xor`.
 use Rattle.jet_table.proofs.Written.{seven_in_turn}
 use Rattle.jet_table.proofs.table.seventh.Goals as goal
 

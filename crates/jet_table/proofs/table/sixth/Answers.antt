@@ -1,3 +1,4 @@
+-- Answers to the goals of `sixth`: from `negate` to `right_shift`.
 use Rattle.jet_table.proofs.Written.{seven_in_turn}
 use Rattle.jet_table.proofs.table.sixth.Goals as goal
 

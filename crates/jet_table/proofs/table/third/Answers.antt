@@ -1,3 +1,4 @@
+-- Answers to the goals of `third`: from `full_subtract` to `left_extend`.
 use Rattle.jet_table.proofs.Written.{seven_in_turn}
 use Rattle.jet_table.proofs.table.third.Goals as goal
 

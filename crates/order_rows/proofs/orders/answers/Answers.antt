@@ -1,3 +1,5 @@
+-- Answers to the goals of `answers`: what is answered of a list at the arrow of programs: its sharing,
+-- and the list reordered.
 use Rattle.order_rows.proofs.Ordered.{typed_again, as_long}
 use Rattle.order_rows.proofs.orders.answers.Goals as goal
 

@@ -1,3 +1,4 @@
+-- Answers to the goals of `put_in`: puts a file in the place of the one of its name, or behind the others.
 use Rattle.std.proofs.Common.{◌≡◌, Some, None, position, rules, refl}
 use Rattle.outside.specs.MemoryFiles.{has_name}
 use Rattle.outside.proofs.HeldFiles.{HoldsAt-set, HoldsAt-push}

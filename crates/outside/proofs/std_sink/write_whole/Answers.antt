@@ -1,3 +1,4 @@
+-- Answers to the goals of `write_whole`: writes the whole piece, in as many parts as the stream takes it.
 use Rattle.outside.proofs.Written.{went_on}
 use Rattle.outside.proofs.std_sink.write_whole.Goals as goal
 

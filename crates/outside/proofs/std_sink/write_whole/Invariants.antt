@@ -1,3 +1,4 @@
+-- Invariants of `write_whole`: writes the whole piece, in as many parts as the stream takes it.
 use Rattle.std.proofs.Common.{length}
 use Rattle.outside.specs.Streams.{Went}
 use Rattle.outside.proofs.std_sink.write_whole.Given as goal

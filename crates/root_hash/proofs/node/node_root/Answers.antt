@@ -1,3 +1,4 @@
+-- Answers to the goals of `node_root` in `node`.
 use Rattle.root_hash.proofs.node.node_root.Goals as goal
 
 pub returns-in-Unit : goal.returns-in-Unit

@@ -1,3 +1,5 @@
+-- Answers to the goals of `roots`: the root of each node's tree, in the order of the list; a hidden
+-- node's bytes stand for its root.
 use Rattle.root_hash.proofs.Rooted.{children_before, front_next, front_all}
 use Rattle.root_hash.proofs.whole.roots.Goals as goal
 

@@ -1,3 +1,5 @@
+-- Invariants of `roots`: the root of each node's tree, in the order of the list; a hidden node's bytes
+-- stand for its root.
 use Rattle.root_hash.proofs.Rooted.{Front}
 use Rattle.root_hash.proofs.whole.roots.Given as goal
 

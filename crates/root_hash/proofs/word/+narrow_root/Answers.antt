@@ -1,3 +1,4 @@
+-- Answers to the goals of `narrow_root`: the root of the word of 2^level bits with a number.
 use Rattle.std.proofs.Common.{arith}
 use Rattle.root_hash.proofs.Words.{narrow_by}
 use Rattle.root_hash.proofs.word.+narrow_root.Goals as goal

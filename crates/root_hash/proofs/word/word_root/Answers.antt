@@ -1,3 +1,4 @@
+-- Answers to the goals of `word_root` in `word`.
 use Rattle.root_hash.proofs.Words.{wide_by}
 use Rattle.root_hash.proofs.word.word_root.Goals as goal
 

@@ -1,3 +1,5 @@
+-- Answers to the goals of `list_rows`: the rows of a table up to one, as a list that ends with the node
+-- of that row.
 use Rattle.std.proofs.Common.{◌≡◌, ℕ, length, ap, sym, subst, ◌∙◌, arith}
 use Rattle.simplicity.specs.Nodes.{AreUnder}
 use Rattle.term_core.specs.declared.table_node.Node.{Node as RowNode}

@@ -1,3 +1,4 @@
+-- Invariants of `list_rows`: the rows of a table up to one, as a list that ends with the node of that row.
 use Rattle.row_lists.proofs.Listing.{Listing}
 use Rattle.row_lists.proofs.list.list_rows.Given as goal
 

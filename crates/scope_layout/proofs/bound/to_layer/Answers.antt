@@ -1,3 +1,4 @@
+-- Answers to the goals of `to_layer` in `bound`.
 use Rattle.std.proofs.Common.{◌++◌, map, replicate, reverse, None, Some, ap, sym, ◌∙◌, arith}
 use Rattle.scope_layout.specs.Layers.{layer_of, layer_path, within}
 use Rattle.scope_layout.specs.declared.path.Step.TheVariants as step

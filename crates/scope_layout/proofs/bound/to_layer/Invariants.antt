@@ -1,3 +1,4 @@
+-- Invariants of `to_layer` in `bound`.
 use Rattle.std.proofs.Common.{◌≡◌, None, drop, map, reverse}
 use Rattle.scope_layout.specs.Layers.{layer_of, layer_path, within}
 use Rattle.scope_layout.proofs.Depths.{deeper}

@@ -1,3 +1,4 @@
+-- Invariants of `names` in `names`.
 use Rattle.std.proofs.Common.{◌≡◌, ◌++◌, None, drop, map, replicate}
 use Rattle.scope_layout.specs.Paths.{variable_path}
 use Rattle.scope_layout.proofs.names.+names.Given as goal

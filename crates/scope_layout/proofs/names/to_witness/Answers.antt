@@ -1,3 +1,4 @@
+-- Answers to the goals of `to_witness` in `names`.
 use Rattle.std.proofs.Common.{length, ap, sym, arith}
 use Rattle.scope_layout.specs.Paths.{at_name}
 use Rattle.scope_layout.proofs.Places.{found_nowhere}

@@ -1,3 +1,4 @@
+-- Invariants of `to_witness` in `names`.
 use Rattle.std.proofs.Common.{◌≡◌, ◌++◌, None, drop, map, replicate}
 use Rattle.scope_layout.specs.Paths.{at_name}
 use Rattle.scope_layout.proofs.names.to_witness.Given as goal

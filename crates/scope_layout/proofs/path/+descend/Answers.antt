@@ -1,3 +1,4 @@
+-- Answers to the goals of `descend` in `path`.
 use Rattle.std.proofs.Common.{arith}
 use Rattle.scope_layout.proofs.Places.{to_front, to_back}
 use Rattle.scope_layout.proofs.path.+descend.Goals as goal

@@ -1,3 +1,4 @@
+-- Measures of `descend` in `path`.
 use Rattle.scope_layout.proofs.path.+descend.Given as goal
 
 abbrev pub decreases-descend : goal.decreases-descend

@@ -1,3 +1,4 @@
+-- Answers to the goals of `classes` in `classes`.
 use Rattle.std.proofs.Common.{◌≡◌, ap, sym, subst, ◌∙◌, length, length-append, Option, List, ℕ, arith}
 use Rattle.std.specs.Prelude.{slice_get}
 use Rattle.simplicity.specs.Nodes.{children, AreUnder}

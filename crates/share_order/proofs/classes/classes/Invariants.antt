@@ -1,3 +1,4 @@
+-- Invariants of `classes` in `classes`.
 use Rattle.std.proofs.Common.{◌≡◌, length, Option}
 use Rattle.simplicity.specs.Nodes.{IsPlaced}
 use Rattle.infer_cells.specs.declared.typing.NodeArrow.{NodeArrow}

@@ -1,3 +1,5 @@
+-- Answers to the goals of `gather`: the nodes that the root reaches, in their order, which is the
+-- left-first post-order.
 use Rattle.std.proofs.Common.{◌≡◌, ap, sym, subst, ◌∙◌, length, List, ℕ, Some, get_or, ◌<◌, arith}
 use Rattle.std.specs.Prelude.{slice_get}
 use Rattle.std.proofs.lemmas.List.{length-set}

@@ -1,3 +1,5 @@
+-- Invariants of `gather`: the nodes that the root reaches, in their order, which is the left-first
+-- post-order.
 use Rattle.std.proofs.Common.{◌≡◌, length, take}
 use Rattle.simplicity.specs.Order.{post_order}
 use Rattle.simplicity.specs.Pruning.{gathered}

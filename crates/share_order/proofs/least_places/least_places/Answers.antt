@@ -1,3 +1,4 @@
+-- Answers to the goals of `least_places` in `least_places`.
 use Rattle.std.proofs.Common.{ap, ◌∙◌, ℕ, min, get_or, arith}
 use Rattle.std.proofs.lemmas.List.{get_or_default}
 use Rattle.std.proofs.lemmas.Option.{slice_get-get_or}

@@ -1,3 +1,4 @@
+-- Invariants of `least_places` in `least_places`.
 use Rattle.share_order.proofs.Leasts.{LeastSoFar}
 use Rattle.share_order.proofs.least_places.least_places.Given as goal
 

@@ -1,3 +1,4 @@
+-- Answers to the goals of `class_nodes`: the nodes of the classes.
 use Rattle.std.proofs.Common.{sym, ◌∙◌}
 use Rattle.term_core.specs.Nodes.{node_of}
 use Rattle.share_order.specs.Keys.{keys_of, nodes_in}

@@ -1,3 +1,4 @@
+-- Answers to the goals of `class_typing`: the arrows of the classes.
 use Rattle.std.proofs.Common.{sym, ◌∙◌}
 use Rattle.share_order.specs.Keys.{keys_of, arrows_in}
 use Rattle.share_order.proofs.Gathers.{taken_next}

@@ -1,3 +1,5 @@
+-- Answers to the goals of `merge`: merges the nodes of an ordered list that are equal in kind, children
+-- and arrow and are no witnesses.
 use Rattle.std.proofs.Common.{sym, subst, length, List, Option}
 use Rattle.simplicity.specs.Nodes.{Node}
 use Rattle.infer_cells.specs.Typings.{typing_in, AreBelowBound}

@@ -1,3 +1,4 @@
+-- Answers to the goals of `check_order`: whether a list is the left-first post-order of its root.
 use Rattle.std.proofs.Common.{◌<◌, subst, ℕ, arith}
 use Rattle.share_order.proofs.Ordering.{all_in_place, full_by}
 use Rattle.share_order.proofs.order.check_order.Goals as goal

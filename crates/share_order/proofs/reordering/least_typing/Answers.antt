@@ -1,3 +1,4 @@
+-- Answers to the goals of `least_typing`: the least typing of a list that has one.
 use Rattle.share_order.proofs.Whole.{as_long}
 use Rattle.share_order.proofs.reordering.least_typing.Goals as goal
 

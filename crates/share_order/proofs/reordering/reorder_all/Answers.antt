@@ -1,3 +1,4 @@
+-- Answers to the goals of `reorder_all`: the list reordered, however many nodes it has.
 use Rattle.std.proofs.Common.{ap, sym, subst, ◌∙◌, length, List, ℕ, ◌<◌}
 use Rattle.infer_cells.specs.Constrained.{arrow_between}
 use Rattle.infer_cells.specs.Typings.{typing_in}

@@ -1,3 +1,5 @@
+-- Answers to the goals of `check_shared`: whether no two nodes other than witnesses are equal in kind,
+-- in what they carry, in their children and in their arrow.
 use Rattle.std.proofs.Common.{subst, Option, arith}
 use Rattle.term_core.specs.Nodes.{node_of}
 use Rattle.infer_cells.specs.declared.typing.NodeArrow.{NodeArrow}

@@ -1,3 +1,5 @@
+-- Invariants of `check_shared`: whether no two nodes other than witnesses are equal in kind, in what
+-- they carry, in their children and in their arrow.
 use Rattle.share_order.specs.Keys.{keys_of, KeysDiffer}
 use Rattle.share_order.proofs.Keyed.{IsSelfSame, AreWide}
 use Rattle.share_order.proofs.Sharings.{OwnKeys}

@@ -1,3 +1,4 @@
+-- Answers to the goals of `tell_apart` in `tell`.
 use Rattle.std.proofs.Common.{ap, ◌∙◌, arith, length, Some}
 use Rattle.share_order.proofs.Told.{bound_of, told, none_told, none_next}
 use Rattle.share_order.proofs.tell.tell_apart.Goals as goal

@@ -1,3 +1,4 @@
+-- Invariants of `tell_apart` in `tell`.
 use Rattle.share_order.proofs.Told.{NoneYet}
 use Rattle.share_order.proofs.tell.tell_apart.Given as goal
 

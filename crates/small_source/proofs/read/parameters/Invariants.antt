@@ -1,3 +1,4 @@
+-- Invariants of `parameters`: the parameters, and the parenthesis after them.
 use Rattle.std.proofs.Common.{◌≡◌, ◌-◌, []}
 use Rattle.small_source.specs.Read.{parameters_read}
 use Rattle.small_source.proofs.read.parameters.Given as goal

@@ -1,3 +1,4 @@
+-- Answers to the goals of `read_small`: reads a small source for the asked name.
 use Rattle.std.proofs.Common.{◌≡◌, List, ℕ, true, Result, Ok, Err, IfOk, ◌∙◌, sym}
 use Rattle.small_source.specs.declared.small.SmallFunction.{SmallFunction}
 use Rattle.small_source.specs.declared.small.SmallRefusal.{SmallRefusal}

@@ -1,3 +1,4 @@
+-- Answers to the goals of `emit_body`: adds the nodes of a body.
 use Rattle.small_source.specs.View.{body_of}
 use Rattle.small_terms.proofs.Lists.{get_within}
 use Rattle.small_terms.proofs.Emitted.{emits_paired, unknown_named, known_named}

@@ -1,3 +1,4 @@
+-- Answers to the goals of `emit_path`: adds the nodes that lead to the byte at a place among so many.
 use Rattle.small_terms.proofs.Emitted.{emits_whole, emits_first, emits_rest}
 use Rattle.small_terms.proofs.build.+emit_path.Goals as goal
 

@@ -1,3 +1,5 @@
+-- Answers to the goals of `build_small`: the nodes of a function, none of them twice, in the order in
+-- which a walk from the root ends them.
 use Rattle.small_source.specs.View.{small_of}
 use Rattle.small_terms.proofs.Compiled.{made_below, compiled, few_nodes}
 use Rattle.small_terms.proofs.build.build_small.Goals as goal

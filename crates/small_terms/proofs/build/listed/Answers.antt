@@ -1,3 +1,4 @@
+-- Answers to the goals of `listed`: the list of the nodes of entries.
 use Rattle.small_terms.proofs.Listed.{entry_follows}
 use Rattle.small_terms.proofs.build.listed.Goals as goal
 

@@ -1,3 +1,4 @@
+-- Invariants of `listed`: the list of the nodes of entries.
 use Rattle.std.proofs.Common.{◌≡◌, take}
 use Rattle.small_terms.specs.Entries.{entry_nodes}
 use Rattle.small_terms.proofs.build.listed.Given as goal

@@ -1,3 +1,4 @@
+-- Answers to the goals of `place_of`: the place of the first parameter of a name.
 use Rattle.small_terms.proofs.Found.{name_here, none_further, none_at_all}
 use Rattle.small_terms.proofs.build.place_of.Goals as goal
 

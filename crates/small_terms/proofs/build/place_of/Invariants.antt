@@ -1,3 +1,4 @@
+-- Invariants of `place_of`: the place of the first parameter of a name.
 use Rattle.std.proofs.Common.{◌≡◌, ℕ, ◌<◌, slice_get, Some}
 use Rattle.small_terms.proofs.build.place_of.Given as goal
 

@@ -1,3 +1,4 @@
+-- Answers to the goals of `add` in `entries`.
 use Rattle.std.proofs.Common.{refl, ◌∙◌, sym, ap, length}
 use Rattle.small_terms.specs.Emitting.{found, added}
 use Rattle.small_terms.proofs.entries.add.Goals as goal

@@ -1,3 +1,4 @@
+-- Invariants of `aliases`: `type X = u2; type Y = X;`
 use Rattle.hl_types.specs.Walks.{AreSound}
 use Rattle.syntax_rows.proofs.forms.aliases.Given as goal
 

@@ -1,3 +1,4 @@
+-- Answers to the goals of `bytes_fit` in `list`.
 use Rattle.std.proofs.Common.{refl}
 use Rattle.term_core.proofs.Carried.{bytes_below}
 use Rattle.term_core.proofs.list.bytes_fit.Goals as goal

@@ -1,3 +1,4 @@
+-- Answers to the goals of `add_by_tag`: one term or another, by the tag of the first part of a pair.
 use Rattle.type_table.specs.Kinds.{kind_at}
 use Rattle.term_core.proofs.Growth.{standing_stays}
 use Rattle.term_makers.proofs.Later.{as_made, tag_later}

@@ -1,3 +1,4 @@
+-- Answers to the goals of `add_comp`: one term and then another, whose source is the target of the first.
 use Rattle.term_makers.proofs.Made.{comp_made}
 use Rattle.term_makers.proofs.makers.add_comp.Goals as goal
 

@@ -1,3 +1,4 @@
+-- Answers to the goals of `add_fail`: failure, from one type to another.
 use Rattle.type_table.specs.Kinds.{kind_at}
 use Rattle.type_table.proofs.Growth.{means_at}
 use Rattle.term_makers.proofs.Made.{rows_are_made}

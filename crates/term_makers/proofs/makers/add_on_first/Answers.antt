@@ -1,3 +1,4 @@
+-- Answers to the goals of `add_on_first`: a term on the first part of a pair, whose second part is of a type.
 use Rattle.term_core.proofs.Growth.{standing_stays}
 use Rattle.term_makers.proofs.Later.{as_made, first_later}
 use Rattle.term_makers.proofs.makers.add_on_first.Goals as goal

@@ -1,3 +1,5 @@
+-- Answers to the goals of `add_on_second`: a term on the second part of a pair, whose first part is of a
+-- type.
 use Rattle.term_core.proofs.Growth.{standing_stays}
 use Rattle.term_makers.proofs.Later.{as_made, second_later}
 use Rattle.term_makers.proofs.makers.add_on_second.Goals as goal

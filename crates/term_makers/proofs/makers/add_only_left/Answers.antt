@@ -1,3 +1,5 @@
+-- Answers to the goals of `add_only_left`: a term on the left of a tagged pair alone; the other side is
+-- hidden, and fails.
 use Rattle.type_table.specs.Kinds.{kind_at}
 use Rattle.term_core.proofs.Growth.{standing_stays}
 use Rattle.term_makers.proofs.Later.{as_made, only_left_later}

@@ -1,3 +1,4 @@
+-- Answers to the goals of `add_pair`: what two terms from one source give, as a pair.
 use Rattle.term_core.proofs.Growth.{standing_stays}
 use Rattle.term_makers.proofs.Later.{as_made, pair_later}
 use Rattle.term_makers.proofs.makers.add_pair.Goals as goal

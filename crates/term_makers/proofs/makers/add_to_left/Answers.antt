@@ -1,3 +1,4 @@
+-- Answers to the goals of `add_to_left`: what a term gives, as the left of a sum whose right is of a type.
 use Rattle.term_core.proofs.Growth.{standing_stays}
 use Rattle.term_makers.proofs.Later.{as_made, left_later}
 use Rattle.term_makers.proofs.makers.add_to_left.Goals as goal

@@ -1,3 +1,4 @@
+-- Answers to the goals of `add_to_right`: what a term gives, as the right of a sum whose left is of a type.
 use Rattle.term_core.proofs.Growth.{standing_stays}
 use Rattle.term_makers.proofs.Later.{as_made, right_later}
 use Rattle.term_makers.proofs.makers.add_to_right.Goals as goal

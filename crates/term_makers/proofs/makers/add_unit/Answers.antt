@@ -1,3 +1,4 @@
+-- Answers to the goals of `add_unit`: the unit value, on the values of a type.
 use Rattle.term_core.proofs.Growth.{standing_stays}
 use Rattle.term_makers.proofs.Later.{as_made, unit_later}
 use Rattle.term_makers.proofs.makers.add_unit.Goals as goal

@@ -1,3 +1,4 @@
+-- Answers to the goals of `arrow_of`: the ids of the source and the target of a term.
 use Rattle.term_makers.proofs.Made.{arrows_are_told}
 use Rattle.term_makers.proofs.makers.arrow_of.Goals as goal
 

@@ -1,3 +1,4 @@
+-- Answers to the goals of `build_program`: the line of a function of a source that is a program.
 use Rattle.std.proofs.Common.{string_bytes}
 use Rattle.top_call.specs.Build.{IsBuild}
 use Rattle.top_call.proofs.Small.{line_given, no_small_stops, unknown_stops}

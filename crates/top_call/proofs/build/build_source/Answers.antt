@@ -1,3 +1,4 @@
+-- Answers to the goals of `build_source`: the line of a function of a source.
 use Rattle.command_outcome.proofs.Stopping.{handed_on}
 use Rattle.top_call.specs.Outcome.{IsBuildOutcome}
 use Rattle.top_call.proofs.Small.{build_read, build_stops}

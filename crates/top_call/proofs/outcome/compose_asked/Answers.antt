@@ -1,3 +1,5 @@
+-- Answers to the goals of `compose_asked`: the text of what is asked for: the files are read in their
+-- order, and then it is answered.
 use Rattle.std.proofs.Common.{length, map, ap, ◌∙◌}
 use Rattle.command_words.specs.Asked.{reading_of}
 use Rattle.command_files.specs.Reads.{file_of}

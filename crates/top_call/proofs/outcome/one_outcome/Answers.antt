@@ -1,3 +1,5 @@
+-- Answers to the goals of `one_outcome`: the law that an outcome is one: its status, and its text for
+-- standard error; of an evaluation its text for standard output too.
 use Rattle.top_call.proofs.OneOutcome.{one_outcome, one_eval_outcome}
 use Rattle.top_call.proofs.outcome.one_outcome.Goals as goal
 

@@ -1,3 +1,5 @@
+-- Answers to the goals of `simphl`: runs a command: reads the files that its words name, composes its
+-- text, and writes it to `out`, or why not to `err`.
 use Rattle.std.proofs.Common.{refl}
 use Rattle.top_call.specs.Answer.{no_memory}
 use Rattle.command_words.specs.Words.{reading, texts}

@@ -1,3 +1,4 @@
+-- Answers to the goals of `ch` in `bits`.
 use Rattle.std.proofs.lemmas.Nat.{or_lt}
 use Rattle.word_math.proofs.Fits.{and_lt_left, and_lt_right}
 use Rattle.word_math.proofs.bits.ch.Goals as goal

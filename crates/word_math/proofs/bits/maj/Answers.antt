@@ -1,3 +1,4 @@
+-- Answers to the goals of `maj` in `bits`.
 use Rattle.std.proofs.lemmas.Nat.{or_lt}
 use Rattle.word_math.proofs.Fits.{and_lt_left}
 use Rattle.word_math.proofs.bits.maj.Goals as goal

@@ -1,3 +1,4 @@
+-- Answers to the goals of `or` in `bits`.
 use Rattle.std.proofs.lemmas.Nat.{or_lt}
 use Rattle.word_math.proofs.bits.or.Goals as goal
 

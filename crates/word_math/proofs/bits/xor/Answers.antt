@@ -1,3 +1,4 @@
+-- Answers to the goals of `xor` in `bits`.
 use Rattle.std.proofs.lemmas.Nat.{xor_lt}
 use Rattle.word_math.proofs.bits.xor.Goals as goal
 

@@ -1,3 +1,5 @@
+-- Answers to the goals of `formula`: what a jet gives: the results that its formula over whole numbers
+-- has, of the widths of its types.
 use Rattle.word_math.proofs.Listed.{sized}
 use Rattle.word_math.proofs.formulas.formula.Goals as goal
 

@@ -1,3 +1,4 @@
+-- Answers to the goals of `right`: `a` moved to the right, with `fill` in the places that fall free.
 use Rattle.std.proofs.Common.{◌≡◌, ◌<◌, arith, min}
 use Rattle.word_math.proofs.Moved.{ones_moved, right_fits, powers_grow}
 use Rattle.word_math.proofs.shift.right.Goals as goal

@@ -1,3 +1,4 @@
+-- Answers to the goals of `rotate`: `a` with its first `places` bits put behind the others.
 use Rattle.word_math.proofs.Moved.{moved_and_cut, rotated_fits}
 use Rattle.word_math.proofs.shift.rotate.Goals as goal
 

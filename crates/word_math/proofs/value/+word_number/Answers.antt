@@ -1,3 +1,4 @@
+-- Answers to the goals of `word_number` in `value`.
 use Rattle.std.proofs.Common.{arith}
 use Rattle.word_math.proofs.Halved.{joined, no_second}
 use Rattle.word_math.proofs.value.+word_number.Goals as goal

@@ -1,3 +1,4 @@
+-- Answers to the goals of `widest_word`: the word of 256 bits that a value is.
 use Rattle.word_math.proofs.Halved.{halves, widest}
 use Rattle.word_math.proofs.value.widest_word.Goals as goal
 

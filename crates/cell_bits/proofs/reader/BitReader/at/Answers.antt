@@ -1,3 +1,4 @@
+-- Answers to the goals of `at`: the number of bits before the reader's place.
 use Rattle.cell_bits.proofs.Reading.{within}
 use Rattle.cell_bits.proofs.reader.BitReader.at.Goals as goal
 

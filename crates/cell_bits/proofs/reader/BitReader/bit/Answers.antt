@@ -1,3 +1,4 @@
+-- Answers to the goals of `bit`: reads a bit.
 use Rattle.std.proofs.Common.{sym, ap, refl, arith}
 use Rattle.simplicity.specs.Spelling.{byte_bits}
 use Rattle.cell_bits.proofs.Reading.{before_end, bit_read, bit_missing}

@@ -1,3 +1,4 @@
+-- Answers to the goals of `digits`: reads a number's bits; after an error some of them may be read.
 use Rattle.std.proofs.Common.{◌≤◌, arith}
 use Rattle.cell_bits.proofs.Answered.{digit_more}
 use Rattle.cell_bits.proofs.reader.BitReader.digits.Goals as goal

@@ -1,3 +1,4 @@
+-- Invariants of `digits`: reads a number's bits; after an error some of them may be read.
 use Rattle.std.proofs.Common.{◌≡◌, ◌<◌, ◌≤◌, ◌^◌, ◌-◌}
 use Rattle.spelling.specs.Reading.{number}
 use Rattle.spelling.specs.Parts.{powers}

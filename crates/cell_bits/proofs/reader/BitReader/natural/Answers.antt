@@ -1,3 +1,4 @@
+-- Answers to the goals of `natural`: reads a natural, by its code.
 use Rattle.std.proofs.Common.{ap, sym}
 use Rattle.spelling.specs.Reading.{read_natural}
 use Rattle.cell_bits.specs.Places.{Place}

@@ -1,3 +1,4 @@
+-- Answers to the goals of `number`: reads a number of `width` bits, the most significant first.
 use Rattle.std.proofs.Common.{ap, sym}
 use Rattle.spelling.specs.Reading.{number}
 use Rattle.cell_bits.specs.Places.{Place}

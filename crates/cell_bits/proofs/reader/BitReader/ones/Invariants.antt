@@ -1,3 +1,4 @@
+-- Invariants of `ones`: reads ones and the zero after them, and counts the ones.
 use Rattle.std.proofs.Common.{◌≡◌, ◌≤◌, length}
 use Rattle.spelling.specs.Parts.{ones}
 use Rattle.cell_bits.specs.Places.{rest}

@@ -1,3 +1,4 @@
+-- Answers to the goals of `parts`: reads a natural; after an error some of its bits may be read.
 use Rattle.std.proofs.Common.{ap, arith}
 use Rattle.cell_bits.specs.Places.{Place}
 use Rattle.cell_bits.proofs.Answered.{parts_end, parts_go}

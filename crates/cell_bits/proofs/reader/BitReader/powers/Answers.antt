@@ -1,3 +1,5 @@
+-- Answers to the goals of `powers`: reads the parts of a natural that begins at a place: each has as
+-- many bits as the value before says.
 use Rattle.std.proofs.Common.{◌<◌, arith}
 use Rattle.cell_bits.proofs.Answered.{part_more, shifted}
 use Rattle.cell_bits.proofs.reader.BitReader.powers.Goals as goal

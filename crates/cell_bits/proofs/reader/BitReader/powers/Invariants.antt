@@ -1,3 +1,5 @@
+-- Invariants of `powers`: reads the parts of a natural that begins at a place: each has as many bits as
+-- the value before says.
 use Rattle.std.proofs.Common.{◌≡◌, ◌<◌, ◌≤◌, ◌^◌, ◌-◌}
 use Rattle.spelling.specs.Reading.{number}
 use Rattle.spelling.specs.Parts.{powers}

@@ -1,3 +1,4 @@
+-- Answers to the goals of `tail`: tests that the rest is fewer than eight zeros.
 use Rattle.std.proofs.Common.{ap, sym, subst, ◌≡◌, ◌∙◌, ◌∷◌, ◌+◌, ◌-◌, ◌*◌, ◌/◌, ◌≤◌, drop, length, arith}
 use Rattle.simplicity.specs.Spelling.{byte_bits}
 use Rattle.cell_bits.specs.Places.{Place}

@@ -1,3 +1,4 @@
+-- Invariants of `tail`: tests that the rest is fewer than eight zeros.
 use Rattle.std.proofs.Common.{◌≡◌, ◌-◌, drop}
 use Rattle.spelling.specs.Reading.{padding, padding_after}
 use Rattle.cell_bits.specs.Places.{rest}

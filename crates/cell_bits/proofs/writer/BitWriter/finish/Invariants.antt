@@ -1,3 +1,5 @@
+-- Invariants of `finish`: the bits in whole bytes, the first bit the most significant, with fewer than
+-- eight zeros after the last.
 use Rattle.std.proofs.Common.{◌≡◌, ◌++◌, false, replicate}
 use Rattle.cell_bits.proofs.writer.BitWriter.finish.Given as goal
 

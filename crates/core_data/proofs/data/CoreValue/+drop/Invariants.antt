@@ -1,3 +1,4 @@
+-- Invariants of `drop`: turns the tree to the right as it goes, so that a deep type takes no stack.
 use Rattle.std.proofs.Common.{◌<◌}
 use Rattle.core_data.specs.Data.{value_of}
 use Rattle.core_data.specs.declared.data.CoreValue.{size-CoreValue}

@@ -1,3 +1,4 @@
+-- Invariants of `list` in `type_texts`.
 use Rattle.std.proofs.Common.{◌≡◌, suc, ◌-◌, length}
 use Rattle.hl_grammar.specs.Readers.{turns}
 use Rattle.hl_grammar.specs.Read as read

@@ -1,3 +1,4 @@
+-- Invariants of `arguments`: arguments at the types of parameters, one after the other.
 use Rattle.std.proofs.Common.{◌≡◌, map}
 use Rattle.hl_rules.specs.Exprs.{expr_walk, parts_walk}
 use Rattle.hl_check.proofs.Exprs.{arguments_from}

@@ -1,3 +1,4 @@
+-- Answers to the goals of `form`: the form of an expression.
 use Rattle.std.proofs.Common.{map, option_map}
 use Rattle.hl_syntax.specs.declared.tree.ExprForm.TheOpen.{ExprForm-F}
 use Rattle.hl_rules.specs.Exprs.{expr_walk, statement_walk, form_step}

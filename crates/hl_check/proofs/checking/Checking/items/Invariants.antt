@@ -1,3 +1,4 @@
+-- Invariants of `items`: the items, one after the other.
 use Rattle.std.proofs.Common.{◌≡◌, map}
 use Rattle.hl_rules.specs.Exprs.{expr_walk, items_walk}
 use Rattle.hl_check.proofs.Exprs.{items_from}

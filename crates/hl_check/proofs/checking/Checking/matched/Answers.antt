@@ -1,3 +1,4 @@
+-- Answers to the goals of `matched` in `checking`.
 use Rattle.std.proofs.Common.{◌++◌, refl}
 use Rattle.hl_syntax.specs.declared.rules.Rule.TheVariants.{K6}
 use Rattle.hl_rules.specs.Exprs.{expr_walk}

@@ -1,3 +1,4 @@
+-- Answers to the goals of `matching`: a match, which has two arms.
 use Rattle.std.proofs.Common.{◌≡◌, List, [], ◌∷◌, Result, sym, subst}
 use Rattle.hl_syntax.specs.declared.kinds.TypedName.{TypedName}
 use Rattle.hl_data.specs.declared.typed.TypedForm.{TypedForm}

@@ -1,3 +1,4 @@
+-- Invariants of `parts` in `checking`.
 use Rattle.std.proofs.Common.{◌≡◌, map}
 use Rattle.hl_rules.specs.Exprs.{expr_walk, parts_walk}
 use Rattle.hl_check.proofs.Exprs.{parts_from}

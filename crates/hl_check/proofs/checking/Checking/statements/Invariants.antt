@@ -1,3 +1,4 @@
+-- Invariants of `statements`: statements, one after the other.
 use Rattle.std.proofs.Common.{◌≡◌, map}
 use Rattle.hl_rules.specs.Exprs.{statement_walk, statements_walk}
 use Rattle.hl_check.specs.Scopes.{IsInner}

@@ -1,3 +1,4 @@
+-- Answers to the goals of `tuple` in `checking`.
 use Rattle.std.proofs.Common.{rules}
 use Rattle.hl_rules.specs.Exprs.{expr_walk}
 use Rattle.hl_check.proofs.Lengths.{map_length}

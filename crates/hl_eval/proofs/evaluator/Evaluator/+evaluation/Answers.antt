@@ -1,3 +1,4 @@
+-- Answers to the goals of `evaluation` in `evaluator`.
 use Rattle.std.proofs.Common.{◌≡◌, suc, ◌+◌, ◌-◌, ◌*◌, ◌^◌, ◌<◌, length, take, get_or, ◌++◌, ◌%◌, refl, sym, ap, ◌∙◌, arith}
 use Rattle.std.proofs.lemmas.Option.{slice_get_read, slice_get-get_or}
 use Rattle.hl_data.specs.declared.typed.TypedForm.TheVariants as form

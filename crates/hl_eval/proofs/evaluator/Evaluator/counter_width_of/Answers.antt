@@ -1,3 +1,4 @@
+-- Answers to the goals of `counter_width_of` in `evaluator`.
 use Rattle.std.proofs.Common.{ap, sym, subst}
 use Rattle.hl_meaning.specs.Answer.{known}
 use Rattle.hl_meaning.specs.Mean.{counter_width}

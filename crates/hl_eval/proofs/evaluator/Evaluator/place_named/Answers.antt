@@ -1,3 +1,4 @@
+-- Answers to the goals of `place_named` in `evaluator`.
 use Rattle.std.proofs.Common.{refl}
 use Rattle.hl_eval.specs.Here.{witness_in}
 use Rattle.hl_eval.proofs.Called.{found, function_missing}

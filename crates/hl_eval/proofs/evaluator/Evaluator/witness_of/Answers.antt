@@ -1,3 +1,4 @@
+-- Answers to the goals of `witness_of` in `evaluator`.
 use Rattle.std.proofs.Common.{ap, sym, ◌∙◌, option_map}
 use Rattle.hl_meaning.specs.Answer.{known, gives}
 use Rattle.hl_eval.proofs.Names.{meant_of}

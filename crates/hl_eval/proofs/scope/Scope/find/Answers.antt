@@ -1,3 +1,4 @@
+-- Answers to the goals of `find` in `scope`.
 use Rattle.std.proofs.Common.{ap, sym, ◌∙◌, option_map}
 use Rattle.hl_meaning.specs.Scopes.{meant}
 use Rattle.hl_eval.proofs.Names.{meant_last}

@@ -1,3 +1,4 @@
+-- Answers to the goals of `truncate` in `scope`.
 use Rattle.hl_eval.proofs.Names.{last_left}
 use Rattle.hl_eval.proofs.scope.Scope.truncate.Goals as goal
 

@@ -1,3 +1,4 @@
+-- Answers to the goals of `array_fold_form`: `array_fold::<name, count>(expr, expr)`
 use Rattle.hl_syntax.specs.declared.token.Mark.{Mark}
 use Rattle.hl_syntax.specs.declared.tree.Expr.{Expr}
 use Rattle.hl_syntax.specs.declared.tree.ExprForm.TheVariants as exprs

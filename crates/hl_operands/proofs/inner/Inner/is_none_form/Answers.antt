@@ -1,3 +1,4 @@
+-- Answers to the goals of `is_none_form`: `is_none::<type>(expr)`
 use Rattle.hl_syntax.specs.declared.tree.TypeText.{TypeText}
 use Rattle.hl_syntax.specs.declared.tree.Expr.{Expr}
 use Rattle.hl_syntax.specs.declared.tree.ExprForm.TheVariants as exprs

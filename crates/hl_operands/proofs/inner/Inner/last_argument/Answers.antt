@@ -1,3 +1,4 @@
+-- Answers to the goals of `last_argument`: `expr)`, with or without a comma after the expression.
 use Rattle.std.proofs.Common.{arith}
 use Rattle.std.proofs.lemmas.Grind.{common_steps}
 use Rattle.hl_operands.proofs.inner.Inner.last_argument.Goals as goal

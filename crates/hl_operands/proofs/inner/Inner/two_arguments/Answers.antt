@@ -1,3 +1,4 @@
+-- Answers to the goals of `two_arguments` in `inner`.
 use Rattle.std.proofs.Common.{arith}
 use Rattle.std.proofs.lemmas.Grind.{common_steps}
 use Rattle.hl_syntax.specs.declared.tree.Expr.{Expr}

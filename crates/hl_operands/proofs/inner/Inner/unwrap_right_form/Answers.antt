@@ -1,3 +1,4 @@
+-- Answers to the goals of `unwrap_right_form`: `unwrap_right::<type>(expr)`
 use Rattle.hl_syntax.specs.declared.tree.TypeText.{TypeText}
 use Rattle.hl_syntax.specs.declared.tree.Expr.{Expr}
 use Rattle.hl_syntax.specs.declared.tree.ExprForm.TheVariants as exprs

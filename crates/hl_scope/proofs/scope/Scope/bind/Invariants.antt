@@ -1,3 +1,4 @@
+-- Invariants of `bind`: puts variables before those in scope.
 use Rattle.std.proofs.Common.{◌≡◌, ◌++◌, length, reverse}
 use Rattle.hl_scope.proofs.scope.Scope.bind.Given as goal
 

@@ -1,3 +1,4 @@
+-- Answers to the goals of `leave`: leaves the outermost variables alone, so many.
 use Rattle.std.proofs.Common.{◌∙◌, ap, reverse}
 use Rattle.hl_scope.proofs.Outer.{outer_left}
 use Rattle.hl_scope.proofs.scope.Scope.leave.Goals as goal

@@ -1,3 +1,4 @@
+-- Answers to the goals of `find`: the place of the jet with a name.
 use Rattle.std.proofs.Common.{◌≡◌, map, Contains, slice_get, option_map, Some, IfSome, IfNone, subst}
 use Rattle.jets.specs.Jet.{row_name}
 use Rattle.jet_table.proofs.Found.{found, found_within, absent}

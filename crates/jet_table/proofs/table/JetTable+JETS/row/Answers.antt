@@ -1,3 +1,4 @@
+-- Answers to the goals of `row`: the row at a place.
 use Rattle.std.proofs.Common.{◌<◌, length, arith, sym, ap, ◌∙◌, slice_get}
 use Rattle.jet_table.proofs.Found.{row_at_place}
 use Rattle.jet_table.proofs.Listed.{row_is}

@@ -1,3 +1,5 @@
+-- Answers to the goals of `fail_at`: makes the call of `put` with this number fail, after it kept so
+-- many bytes of its piece, or as many as there are and have room.
 use Rattle.outside.proofs.KeptPlans.{AddsPlan-push}
 use Rattle.outside.proofs.memory_sink.MemorySink.fail_at.Goals as goal
 

@@ -1,3 +1,5 @@
+-- Answers to the goals of `path`: the path to the value of a variable; None exactly where no pattern
+-- binds the name.
 use Rattle.std.proofs.Common.{sym, subst}
 use Rattle.scope_layout.specs.Leads.{IsPath}
 use Rattle.scope_layout.specs.declared.bound.Sort.TheVariants as sort

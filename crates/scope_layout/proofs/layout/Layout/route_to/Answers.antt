@@ -1,3 +1,4 @@
+-- Answers to the goals of `route_to` in `layout`.
 use Rattle.std.proofs.Common.{map, reverse, ap, sym, ◌∙◌}
 use Rattle.scope_layout.specs.Layers.{layer_of, layer_path, path_of}
 use Rattle.scope_layout.proofs.Depths.{found_before, found_outside, as_many}

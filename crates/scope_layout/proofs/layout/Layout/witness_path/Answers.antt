@@ -1,3 +1,5 @@
+-- Answers to the goals of `witness_path`: the path to the value of a bound witness; None exactly where
+-- no bound witness has the name.
 use Rattle.std.proofs.Common.{sym, subst}
 use Rattle.scope_layout.specs.Leads.{IsPath}
 use Rattle.scope_layout.specs.declared.bound.Sort.TheVariants as sort

@@ -1,3 +1,4 @@
+-- Answers to the goals of `pop` in `cursor`.
 use Rattle.std.proofs.Common.{sym, ◌∙◌}
 use Rattle.small_source.proofs.Lexing.{tokens_from-end, tokens_from-next}
 use Rattle.small_source.proofs.cursor.Cursor.pop.Goals as goal

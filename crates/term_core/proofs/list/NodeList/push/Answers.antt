@@ -1,3 +1,4 @@
+-- Answers to the goals of `push`: appends a node.
 use Rattle.term_core.proofs.Carried.{carried_push}
 use Rattle.term_core.proofs.Placed.{placed_push}
 use Rattle.term_core.proofs.list.NodeList.push.Goals as goal

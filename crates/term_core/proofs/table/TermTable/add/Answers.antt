@@ -1,3 +1,4 @@
+-- Answers to the goals of `add`: the id of a node with an arrow over the terms that its children mean.
 use Rattle.std.proofs.Common.{◌≡◌, ◌⊎◌, ◌∙◌, ap, sym, length}
 use Rattle.term_core.specs.declared.table_node.TermRow.{TermRow}
 use Rattle.term_core.specs.Keys.{rows_of, turn_of}

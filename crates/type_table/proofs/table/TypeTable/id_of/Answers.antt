@@ -1,3 +1,4 @@
+-- Answers to the goals of `id_of`: the id of a shape, which is added where it isn't there yet.
 use Rattle.std.proofs.Common.{◌≡◌, [], ◌∷◌, ◌++◌, ◌∙◌, None}
 use Rattle.indexmap.specs.IndexMap.{get}
 use Rattle.indexmap.proofs.CallerLemmas.{insert_entry-new}

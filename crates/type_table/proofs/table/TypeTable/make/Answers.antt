@@ -1,3 +1,4 @@
+-- Answers to the goals of `make`: makes the tree of a type, or leaves the steps that make it.
 use Rattle.std.proofs.Common.{[]}
 use Rattle.type_table.specs.Steps.{stack_of}
 use Rattle.type_table.proofs.Stacks.{one_made, stack_of-push, sum_planned, product_planned}

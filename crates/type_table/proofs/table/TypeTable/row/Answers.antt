@@ -1,3 +1,4 @@
+-- Answers to the goals of `row`: the row of an id.
 use Rattle.std.proofs.Common.{sym}
 use Rattle.type_table.proofs.Tables.{row_is}
 use Rattle.type_table.proofs.table.TypeTable.row.Goals as goal

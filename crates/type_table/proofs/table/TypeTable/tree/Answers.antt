@@ -1,3 +1,4 @@
+-- Answers to the goals of `tree`: the tree of a type.
 use Rattle.std.proofs.Common.{[], ◌∷◌}
 use Rattle.type_table.specs.Kinds.{kind_at}
 use Rattle.type_table.specs.Steps.{stack_of}

@@ -1,3 +1,4 @@
+-- Invariants of `tree`: the tree of a type.
 use Rattle.std.proofs.Common.{◌≡◌, [], ◌∷◌, Some}
 use Rattle.type_table.specs.Kinds.{kind_at}
 use Rattle.type_table.specs.Steps.{stack_of, after_steps, load}

@@ -1,3 +1,4 @@
+-- Answers to the goals of `word`: the type of the words of so many bits, which is 1, 2, 4, up to 256.
 use Rattle.std.proofs.Common.{◌≡◌, ℕ, subst, arith}
 use Rattle.simplicity.specs.Types.{word_kind}
 use Rattle.type_table.specs.Kinds.{Means}

@@ -1,3 +1,4 @@
+-- Answers to the goals of `bit`: the bit at a place, the most significant first.
 use Rattle.std.proofs.Common.{◌≡◌, ◌/◌, ◌%◌, ◌^◌, nat_eq, arith, ap}
 use Rattle.word_math.proofs.Moved.{low_bit, high_bit}
 use Rattle.word_math.proofs.word.Word.bit.Goals as goal

@@ -1,3 +1,4 @@
+-- Invariants of `from_value`: the word that a value is; None where it is none of 1 to 256 bits.
 use Rattle.std.proofs.Common.{ℕ, ◌<◌}
 use Rattle.core_data.specs.Data.{value_of}
 use Rattle.word_math.specs.Values.{IsNoWordOf}
