@@ -17,7 +17,6 @@ use Rattle.simplicity.specs.Visits.{Visit, visit, Visited, Start, Onward, leads,
 use Rattle.simplicity.specs.Pruning.{Choice, Keep, HideLeft, HideRight, cut, HidesUnvisited, IsHide, gathered, renamed, IsOpenAt, IsMerged, IsReordered, IsPruned}
 use Rattle.simplicity.proofs.Typings.{meets_at, hidden_at, typing_length, HasFrom, same_list}
 use Rattle.simplicity.proofs.Inversion.{unit_meets, comp_meets, pair_meets, assertr_meets}
-use Rattle.simplicity.proofs.RowPruned.{hide_if, hide_left, hide_right}
 use Rattle.simplicity.proofs.Sharing.{shared_by, mark_with}
 use Rattle.sharing.proofs.Cuts.{hiding_cuts, cuts_are_placed}
 use Rattle.sharing.proofs.Orderly.{position, position_there}
@@ -45,6 +44,10 @@ old_placed : IsPlaced old_nodes
 old_placed = (tt, (tt, (tt, (tt, (tt, (tt, ((tt, tt), (tt, ((tt, tt), (tt, ((tt, tt), tt)))))))))))
 
 -- the left side of the case is hidden
+hide_if : Bool → Choice
+hide_if true = HideLeft
+hide_if false = Keep
+
 abbrev choices : ℕ → Choice
 choices i = hide_if (nat_eq i 5)
 
@@ -127,6 +130,16 @@ right_alone _ a c SeenSide e f = absurd (omega arith)
 
 not_left : (i : ℕ) → i ≡ 5 → IsVisitedLeft old_nodes old_values UnitValue i → ⊥
 not_left i e h = right_alone (visit i (Pair (Inl h.1) h.2)) h.1 h.2 (all_seen (visit i (Pair (Inl h.1) h.2)) h.3) e refl
+
+hide_left : (b : Bool) → hide_if b ≡ HideLeft → b ≡ true
+unfolding hide_if
+hide_left true e = refl
+hide_left false e = absurd (cc)
+
+hide_right : (b : Bool) → hide_if b ≡ HideRight → ⊥
+unfolding hide_if
+hide_right true e = absurd (cc)
+hide_right false e = absurd (cc)
 
 visited_right : (i : ℕ) → i ≡ 5 → IsVisitedRight old_nodes old_values UnitValue i
 visited_right i e = subst (IsVisitedRight old_nodes old_values UnitValue) (sym e) ((3, 4, refl), UnitValue, Pair UnitValue UnitValue, case_visited)
