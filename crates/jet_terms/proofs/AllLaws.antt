@@ -1,7 +1,6 @@
 -- Each jet at once.
-use Rattle.jets.specs.Jet as jet
 use Rattle.jets.specs.Jet.{Jet}
-use Rattle.jet_terms.specs.Laws.{AllAreFormulas}
+use Rattle.jet_terms.specs.Laws.{JetsCompute}
 use Rattle.jet_terms.proofs.GateLaws.{low_law, high_law, complement_law, and_law, or_law, xor_law, maj_law, xor_xor_law, ch_law, some_law, all_law, is_zero_law, is_one_law, eq_law, verify_law}
 use Rattle.jet_terms.proofs.OrderLaws.{lt_law, le_law, min_law, max_law, median_law}
 use Rattle.jet_terms.proofs.SumLaws.{full_add_law, add_law, full_increment_law, increment_law}
@@ -11,8 +10,9 @@ use Rattle.jet_terms.proofs.QuotientLaws.{div_mod_law, divide_law, modulo_law, d
 use Rattle.jet_terms.proofs.PartLaws.{leftmost_law, rightmost_law}
 use Rattle.jet_terms.proofs.PadLaws.{left_pad_low_law, left_pad_high_law, left_extend_law, right_pad_low_law, right_pad_high_law, right_extend_law}
 use Rattle.jet_terms.proofs.ShiftLaws.{left_shift_with_law, right_shift_with_law, left_shift_law, right_shift_law, left_rotate_law, right_rotate_law}
+use Rattle.jets.specs.Jet as jet
 
-pub each_law : AllAreFormulas
+pub each_law : JetsCompute
 each_law jet.Add = add_law
 each_law jet.All = all_law
 each_law jet.And = and_law

@@ -1,22 +1,26 @@
 -- The term of each jet is typed.
 use Rattle.std.proofs.Common.{◌-◌, [], sym, subst}
 use Rattle.simplicity.specs.Types.{Kind, One, word_kind}
-use Rattle.simplicity.specs.Typing.{IsTyped}
+use Rattle.simplicity.specs.Arrows.{IsTypedFrom}
+use Rattle.simplicity.specs.Flowed.{flowed}
+use Rattle.simplicity.proofs.Flowed.{source_flowed, flowed_typed}
 use Rattle.simplicity.specs.Terms.{Term}
 use Rattle.simplicity.specs.Widths.{level_of}
-use Rattle.jets.specs.Jet as jet
 use Rattle.jet_terms.specs.Trees.{not_1, and_1, or_1, xor_1, maj_1, xor_xor_1, ch_1, zeros, ones, leftmost, rightmost}
-use Rattle.jet_terms.specs.Laws.{expansion, source_of, result_of, amount_level, fail_root, AllAreTyped}
+use Rattle.jet_terms.specs.Expansions.{expansion, source_of, result_of, amount_level}
+use Rattle.simplicity.specs.Makes.{fail_root}
+use Rattle.jet_terms.specs.Laws.{JetsAreTyped}
 use Rattle.jet_terms.proofs.ProductLaws.{doubled}
 use Rattle.jet_terms.proofs.PartLaws.{narrowed_spread}
 use Rattle.jet_terms.proofs.PadLaws.{widened_spread}
 use Rattle.jet_terms.proofs.ShiftLaws.{amounts}
-use Rattle.jet_terms.proofs.Typed.{typed, Leads, add_leads, all_leads, and_1_leads, ch_1_leads, decrement_leads, div_mod_leads, divide_leads, divides_leads, eq_leads, full_add_leads, full_decrement_leads, full_increment_leads, full_multiply_leads, full_subtract_leads, greatest_leads, increment_leads, is_one_leads, is_zero_leads, le_leads, least_leads, left_extend_leads, left_pad_leads, left_rotate_leads, left_shift_leads, left_shift_with_leads, leftmost_leads, lift1_leads, lift2_leads, lift3_leads, lt_leads, maj_1_leads, median_leads, modulo_leads, multiply_leads, negate_leads, not_1_leads, ones_lead, or_1_leads, right_extend_leads, right_pad_leads, right_rotate_leads, right_shift_leads, right_shift_with_leads, rightmost_leads, some_leads, subtract_leads, verify_leads, xor_1_leads, xor_xor_1_leads, zeros_lead}
+use Rattle.jet_terms.proofs.Typed.{Leads, add_leads, all_leads, and_1_leads, ch_1_leads, decrement_leads, div_mod_leads, divide_leads, divides_leads, eq_leads, full_add_leads, full_decrement_leads, full_increment_leads, full_multiply_leads, full_subtract_leads, greatest_leads, increment_leads, is_one_leads, is_zero_leads, le_leads, least_leads, left_extend_leads, left_pad_leads, left_rotate_leads, left_shift_leads, left_shift_with_leads, leftmost_leads, lift1_leads, lift2_leads, lift3_leads, lt_leads, maj_1_leads, median_leads, modulo_leads, multiply_leads, negate_leads, not_1_leads, ones_lead, or_1_leads, right_extend_leads, right_pad_leads, right_rotate_leads, right_shift_leads, right_shift_with_leads, rightmost_leads, some_leads, subtract_leads, verify_leads, xor_1_leads, xor_xor_1_leads, zeros_lead}
+use Rattle.jets.specs.Jet as jet
 
-leads_typed : (t : Term) (a b : Kind) → Leads t a b → IsTyped [] t a b
-leads_typed t a b h = subst (λ c. IsTyped [] t a c) h.1 (typed [] t a h.0)
+leads_typed : (t : Term) (a b : Kind) → Leads t a b → IsTypedFrom (flowed t a) a b
+leads_typed t a b h = record { from = source_flowed t a; to = h.1; typed = flowed_typed t a h.0 }
 
-pub each_typed : AllAreTyped
+pub each_typed : JetsAreTyped
 each_typed jet.Add n w is = leads_typed (expansion jet.Add n w) (source_of jet.Add n w) (result_of jet.Add n w) (add_leads (level_of n))
 each_typed jet.All n w is = leads_typed (expansion jet.All n w) (source_of jet.All n w) (result_of jet.All n w) (all_leads (level_of n))
 each_typed jet.And n w is = leads_typed (expansion jet.And n w) (source_of jet.And n w) (result_of jet.And n w) (lift2_leads and_1 and_1_leads (level_of n))

@@ -3,18 +3,18 @@ use Rattle.std.proofs.Common.{◌≡◌, ℕ, zero, suc, ◌+◌, ◌-◌, ◌*�
 use Rattle.std.specs.Prelude.{◌++◌, map, length, take, drop, ◌||◌}
 use Rattle.std.proofs.lemmas.List.{length-append, length-drop, take-append-drop}
 use Rattle.std.proofs.lemmas.Nat.{pow_pos, pow-add}
-use Rattle.simplicity.specs.Types.{Value, UnitValue, Pair}
+use Rattle.simplicity.specs.Types.{Value, UnitValue, Pair, bit_value}
 use Rattle.simplicity.specs.Terms.{Term, PairTerm, meaning}
 use Rattle.jet_terms.specs.Trees.{O, I, or_1, ◌⨾◌, bit_paths, nested, bits, any_of}
-use Rattle.jet_terms.proofs.Digits.{Digits, number, tree, bit_tree, bit}
+use Rattle.simplicity.specs.Digits.{Digits, number, tree, bit_number}
 use Rattle.jet_terms.proofs.Compare.{Less, less, more, Tests}
 use Rattle.jet_terms.proofs.GateLaws.{or_bits}
 use Rattle.jet_terms.proofs.Shifts.{Amount, amount_tree, amount}
 
--- each term gives its bit
+-- each term gives its bit_number
 abbrev pub GiveBits : List Value → Value → List Term → List Bool → Type 0
 GiveBits ws v [] [] = Unit {0}
-GiveBits ws v (p ∷ ps) (b ∷ bs) = (meaning p ws v ≡ Some (bit_tree b)) × GiveBits ws v ps bs
+GiveBits ws v (p ∷ ps) (b ∷ bs) = (meaning p ws v ≡ Some (bit_value b)) × GiveBits ws v ps bs
 GiveBits ws v [] (b ∷ bs) = ⊥
 GiveBits ws v (p ∷ ps) [] = ⊥
 
@@ -64,7 +64,7 @@ paths_give (suc j) ws s =
 
 abbrev pub value_of : List Bool → ℕ
 value_of [] = 0
-value_of (b ∷ bs) = bit b * 2 ^ length bs + value_of bs
+value_of (b ∷ bs) = bit_number b * 2 ^ length bs + value_of bs
 
 value_step : (b p q m n : ℕ) (r : ℕ) → r ≡ p * q → b * r + (m * q + n) ≡ (b * p + m) * q + n
 value_step b p q m n r e = omega (arith, ap (λ x. b * x) e)
@@ -72,8 +72,8 @@ value_step b p q m n r e = omega (arith, ap (λ x. b * x) e)
 value_append : (xs ys : List Bool) → value_of (xs ++ ys) ≡ value_of xs * 2 ^ length ys + value_of ys
 value_append [] ys = omega arith
 value_append (x ∷ xs) ys =
-    ap (λ n. bit x * 2 ^ length (xs ++ ys) + n) (value_append xs ys)
-      ∙ value_step (bit x) (2 ^ length xs) (2 ^ length ys) (value_of xs) (value_of ys) (2 ^ length (xs ++ ys)) (ap (λ n. 2 ^ n) (length-append xs ys) ∙ pow-add 2 (length xs) (length ys))
+    ap (λ n. bit_number x * 2 ^ length (xs ++ ys) + n) (value_append xs ys)
+      ∙ value_step (bit_number x) (2 ^ length xs) (2 ^ length ys) (value_of xs) (value_of ys) (2 ^ length (xs ++ ys)) (ap (λ n. 2 ^ n) (length-append xs ys) ∙ pow-add 2 (length xs) (length ys))
 
 bools_length : (j : ℕ) (s : Digits j) → length (bools j s) ≡ 2 ^ j
 bools_length zero b = refl
@@ -87,14 +87,14 @@ value_below : (bs : List Bool) → value_of bs < 2 ^ length bs
 value_below [] = omega arith
 value_below (b ∷ bs) = let h = value_below bs in let q : 2 ^ suc (length bs) ≡ 2 ^ length bs + 2 ^ length bs = omega arith in by b h q
   where
-    by : (b : Bool) → value_of bs < 2 ^ length bs → 2 ^ suc (length bs) ≡ 2 ^ length bs + 2 ^ length bs → bit b * 2 ^ length bs + value_of bs < 2 ^ suc (length bs)
+    by : (b : Bool) → value_of bs < 2 ^ length bs → 2 ^ suc (length bs) ≡ 2 ^ length bs + 2 ^ length bs → bit_number b * 2 ^ length bs + value_of bs < 2 ^ suc (length bs)
     by false h q = omega (arith, h, q)
     by true h q = omega (arith, h, q)
 
 -- the bits as a nested list
 abbrev pub list_tree : List Bool → Value
 list_tree [] = UnitValue
-list_tree (b ∷ bs) = Pair (bit_tree b) (list_tree bs)
+list_tree (b ∷ bs) = Pair (bit_value b) (list_tree bs)
 
 nested_gives : (ws : List Value) (v : Value) (ps : List Term) (bs : List Bool) → GiveBits ws v ps bs → meaning (nested ps) ws v ≡ Some (list_tree bs)
 nested_gives ws v [] [] h = refl
@@ -109,14 +109,14 @@ amount_from (suc k) [] h = absurd (omega (arith, h))
 amount_from (suc k) (b ∷ bs) h =
     let e : length bs ≡ k = omega (arith, h) in
     let r = amount_from k bs e in
-    ((b, r.0), ap (λ t. Pair (bit_tree b) t) r.1, rw (r.2, e) refl)
+    ((b, r.0), ap (λ t. Pair (bit_value b) t) r.1, rw (r.2, e) refl)
 
--- whether a bit is set
+-- whether a bit_number is set
 abbrev pub any : Bool → List Bool → Bool
 any b [] = b
 any b (c ∷ bs) = any (b || c) bs
 
-any_gives : (ws : List Value) (v : Value) (p : Term) (b : Bool) (ps : List Term) (bs : List Bool) → meaning p ws v ≡ Some (bit_tree b) → GiveBits ws v ps bs → meaning (any_of p ps) ws v ≡ Some (bit_tree (any b bs))
+any_gives : (ws : List Value) (v : Value) (p : Term) (b : Bool) (ps : List Term) (bs : List Bool) → meaning p ws v ≡ Some (bit_value b) → GiveBits ws v ps bs → meaning (any_of p ps) ws v ≡ Some (bit_value (any b bs))
 any_gives ws v p b [] [] g h = g
 any_gives ws v p b [] (c ∷ bs) g h = absurd h
 any_gives ws v p b (q ∷ ps) [] g h = absurd h

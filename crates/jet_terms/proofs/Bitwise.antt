@@ -2,7 +2,9 @@
 use Rattle.std.proofs.Common.{◌≡◌, ℕ, zero, suc, ◌+◌, ◌*◌, ◌^◌, Bool, true, false, refl, sym, ap, ◌∙◌}
 use Rattle.std.specs.Prelude.{◌&&◌, ◌||◌, not, bit_and, bit_or, bit_xor}
 use Rattle.std.proofs.lemmas.Nat.{and_block, or_block, xor_block}
-use Rattle.jet_terms.proofs.Digits.{Digits, number, base, number_below}
+use Rattle.simplicity.specs.Digits.{Digits, number}
+use Rattle.simplicity.specs.Types.{word_count}
+use Rattle.simplicity.proofs.Digits.{number_below}
 use Rattle.jet_terms.proofs.Gates.{each1, each2, each3}
 
 abbrev pub either_one : Bool → Bool → Bool
@@ -15,7 +17,7 @@ number_and zero false true = refl
 number_and zero true false = refl
 number_and zero true true = refl
 number_and (suc k) a b =
-    ap (λ n. n * base k + number k (each2 ◌&&◌ k a.1 b.1)) (number_and k a.0 b.0) ∙ ap (λ n. bit_and (number k a.0) (number k b.0) * base k + n) (number_and k a.1 b.1)
+    ap (λ n. n * word_count k + number k (each2 ◌&&◌ k a.1 b.1)) (number_and k a.0 b.0) ∙ ap (λ n. bit_and (number k a.0) (number k b.0) * word_count k + n) (number_and k a.1 b.1)
     ∙ sym (and_block (2 ^ k) (number k a.0) (number k b.0) (number k a.1) (number k b.1) (number_below k a.1) (number_below k b.1))
 
 pub number_or : (k : ℕ) (a b : Digits k) → number k (each2 ◌||◌ k a b) ≡ bit_or (number k a) (number k b)
@@ -24,7 +26,7 @@ number_or zero false true = refl
 number_or zero true false = refl
 number_or zero true true = refl
 number_or (suc k) a b =
-    ap (λ n. n * base k + number k (each2 ◌||◌ k a.1 b.1)) (number_or k a.0 b.0) ∙ ap (λ n. bit_or (number k a.0) (number k b.0) * base k + n) (number_or k a.1 b.1)
+    ap (λ n. n * word_count k + number k (each2 ◌||◌ k a.1 b.1)) (number_or k a.0 b.0) ∙ ap (λ n. bit_or (number k a.0) (number k b.0) * word_count k + n) (number_or k a.1 b.1)
     ∙ sym (or_block (2 ^ k) (number k a.0) (number k b.0) (number k a.1) (number k b.1) (number_below k a.1) (number_below k b.1))
 
 pub number_xor : (k : ℕ) (a b : Digits k) → number k (each2 either_one k a b) ≡ bit_xor (number k a) (number k b)
@@ -33,7 +35,7 @@ number_xor zero false true = refl
 number_xor zero true false = refl
 number_xor zero true true = refl
 number_xor (suc k) a b =
-    ap (λ n. n * base k + number k (each2 either_one k a.1 b.1)) (number_xor k a.0 b.0) ∙ ap (λ n. bit_xor (number k a.0) (number k b.0) * base k + n) (number_xor k a.1 b.1)
+    ap (λ n. n * word_count k + number k (each2 either_one k a.1 b.1)) (number_xor k a.0 b.0) ∙ ap (λ n. bit_xor (number k a.0) (number k b.0) * word_count k + n) (number_xor k a.1 b.1)
     ∙ sym (xor_block (2 ^ k) (number k a.0) (number k b.0) (number k a.1) (number k b.1) (number_below k a.1) (number_below k b.1))
 
 -- three words bit by bit, as steps on two

@@ -1,56 +1,58 @@
 -- The differences and decrements compute their formulas.
 use Rattle.std.proofs.Common.{◌≡◌, ℕ, ◌+◌, ◌-◌, ◌*◌, ◌%◌, ◌^◌, ◌<◌, List, Bool, true, false, refl, ap, ◌∙◌, arith, Some}
 use Rattle.std.specs.Prelude.{nat_lt}
-use Rattle.simplicity.specs.Types.{Value, Pair, word_value}
+use Rattle.simplicity.specs.Types.{Value, Pair, word_value, bit_value, word_count}
 use Rattle.simplicity.specs.Terms.{meaning}
 use Rattle.simplicity.specs.Widths.{level_of}
-use Rattle.jets.specs.Jet as jet
 use Rattle.jets.specs.Jet.{is_jet, sizes}
-use Rattle.jets.specs.Formula as formula
-use Rattle.jet_terms.specs.Laws.{source_of, Gives, IsFormula}
-use Rattle.jet_terms.proofs.Digits.{Digits, number, tree, bit_tree, bit, base, base_pos, number_below, tree_word}
+use Rattle.jet_terms.specs.Expansions.{source_of}
+use Rattle.jet_terms.specs.Laws.{Gives, IsFormula}
+use Rattle.simplicity.specs.Digits.{Digits, number, tree, bit_number}
+use Rattle.simplicity.proofs.Digits.{count_pos, number_below, tree_word, word_digits}
 use Rattle.std.proofs.lemmas.Bool.{lt-ltb, le-ltb}
 use Rattle.std.proofs.lemmas.Nat.{mod-mul-add}
 use Rattle.jet_terms.specs.Trees.{full_subtract, subtract, full_decrement, decrement, negate}
 use Rattle.jet_terms.proofs.Division.{takes}
-use Rattle.jet_terms.proofs.Frame.{usual_level, word_of, args1, args2, args3, at1, at2, at_bit1, at_bit2}
+use Rattle.jet_terms.proofs.Frame.{usual_level, args1, args2, args3, at1, at2, at_bit1, at_bit2}
+use Rattle.jets.specs.Jet as jet
+use Rattle.jets.specs.Formula as formula
 
-difference_law : (k : ℕ) (borrow : Bool) (rest : Digits k) (a b : ℕ) → number k rest + b ≡ a + bit borrow * base k
-    → Some (Pair (bit_tree borrow) (tree k rest)) ≡ Some (Pair (word_value 0 (formula.bit (nat_lt a (b)))) (word_value k ((base k + a - (b)) % base k)))
+difference_law : (k : ℕ) (borrow : Bool) (rest : Digits k) (a b : ℕ) → number k rest + b ≡ a + bit_number borrow * word_count k
+    → Some (Pair (bit_value borrow) (tree k rest)) ≡ Some (Pair (word_value 0 (formula.bit (nat_lt a (b)))) (word_value k ((word_count k + a - (b)) % word_count k)))
 difference_law k false rest a b e =
     let small = number_below k rest in
-    let d : base k + a - b ≡ 1 * base k + number k rest = omega (arith, e) in
-    let low = ap (λ s. s % base k) d ∙ mod-mul-add 1 (base k) (number k rest) small in
+    let d : word_count k + a - b ≡ 1 * word_count k + number k rest = omega (arith, e) in
+    let low = ap (λ s. s % word_count k) d ∙ mod-mul-add 1 (word_count k) (number k rest) small in
     rw (low, le-ltb a b (omega (arith, e)), tree_word k rest) refl
 difference_law k true rest a b e =
     let small = number_below k rest in
-    let d : base k + a - b ≡ 0 * base k + number k rest = omega (arith, e) in
-    let low = ap (λ s. s % base k) d ∙ mod-mul-add 0 (base k) (number k rest) small in
+    let d : word_count k + a - b ≡ 0 * word_count k + number k rest = omega (arith, e) in
+    let low = ap (λ s. s % word_count k) d ∙ mod-mul-add 0 (word_count k) (number k rest) small in
     rw (low, lt-ltb a b (omega (arith, e, small)), tree_word k rest) refl
 
-pub full_differences : (k : ℕ) (ws : List Value) (c a b : ℕ) → c < base 0 → a < base k → b < base k →
-    meaning (full_subtract k) ws (Pair (word_value 0 c) (Pair (word_value k a) (word_value k b))) ≡ Some (Pair (word_value 0 (formula.bit (nat_lt a (b + c)))) (word_value k ((base k + a - (b + c)) % base k)))
+pub full_differences : (k : ℕ) (ws : List Value) (c a b : ℕ) → c < word_count 0 → a < word_count k → b < word_count k →
+    meaning (full_subtract k) ws (Pair (word_value 0 c) (Pair (word_value k a) (word_value k b))) ≡ Some (Pair (word_value 0 (formula.bit (nat_lt a (b + c)))) (word_value k ((word_count k + a - (b + c)) % word_count k)))
 full_differences k ws c a b e f g =
-    let z = word_of 0 c e in
-    let x = word_of k a f in
-    let y = word_of k b g in
+    let z = word_digits 0 c e in
+    let x = word_digits k a f in
+    let y = word_digits k b g in
     let s = takes k ws z.0 x.0 y.0 in
     rw (z.2, x.2, y.2) (s.gives ∙ difference_law k s.borrow s.rest a (b + c) (omega (arith, s.law, x.1, y.1, z.1)))
 
-again : (k a m n : ℕ) → m ≡ n → Some (Pair (word_value 0 (formula.bit (nat_lt a (m)))) (word_value k ((base k + a - (m)) % base k))) ≡ Some (Pair (word_value 0 (formula.bit (nat_lt a (n)))) (word_value k ((base k + a - (n)) % base k)))
-again k a m n e = ap (λ b. Some (Pair (word_value 0 (formula.bit (nat_lt a (b)))) (word_value k ((base k + a - (b)) % base k)))) e
+again : (k a m n : ℕ) → m ≡ n → Some (Pair (word_value 0 (formula.bit (nat_lt a (m)))) (word_value k ((word_count k + a - (m)) % word_count k))) ≡ Some (Pair (word_value 0 (formula.bit (nat_lt a (n)))) (word_value k ((word_count k + a - (n)) % word_count k)))
+again k a m n e = ap (λ b. Some (Pair (word_value 0 (formula.bit (nat_lt a (b)))) (word_value k ((word_count k + a - (b)) % word_count k)))) e
 
-pub plain_differences : (k : ℕ) (ws : List Value) (a b : ℕ) → a < base k → b < base k → meaning (subtract k) ws (Pair (word_value k a) (word_value k b)) ≡ Some (Pair (word_value 0 (formula.bit (nat_lt a (b)))) (word_value k ((base k + a - (b)) % base k)))
+pub plain_differences : (k : ℕ) (ws : List Value) (a b : ℕ) → a < word_count k → b < word_count k → meaning (subtract k) ws (Pair (word_value k a) (word_value k b)) ≡ Some (Pair (word_value 0 (formula.bit (nat_lt a (b)))) (word_value k ((word_count k + a - (b)) % word_count k)))
 plain_differences k ws a b f g = full_differences k ws 0 a b (omega arith) f g ∙ again k a (b + 0) b (omega arith)
 
-pub full_decrements : (k : ℕ) (ws : List Value) (c a : ℕ) → c < base 0 → a < base k → meaning (full_decrement k) ws (Pair (word_value 0 c) (word_value k a)) ≡ Some (Pair (word_value 0 (formula.bit (nat_lt a (c)))) (word_value k ((base k + a - (c)) % base k)))
-full_decrements k ws c a f g = full_differences k ws c a 0 f g (base_pos k) ∙ again k a (0 + c) c (omega arith)
+pub full_decrements : (k : ℕ) (ws : List Value) (c a : ℕ) → c < word_count 0 → a < word_count k → meaning (full_decrement k) ws (Pair (word_value 0 c) (word_value k a)) ≡ Some (Pair (word_value 0 (formula.bit (nat_lt a (c)))) (word_value k ((word_count k + a - (c)) % word_count k)))
+full_decrements k ws c a f g = full_differences k ws c a 0 f g (count_pos k) ∙ again k a (0 + c) c (omega arith)
 
-pub decrements : (k : ℕ) (ws : List Value) (a : ℕ) → a < base k → meaning (decrement k) ws (word_value k a) ≡ Some (Pair (word_value 0 (formula.bit (nat_lt a (1)))) (word_value k ((base k + a - (1)) % base k)))
+pub decrements : (k : ℕ) (ws : List Value) (a : ℕ) → a < word_count k → meaning (decrement k) ws (word_value k a) ≡ Some (Pair (word_value 0 (formula.bit (nat_lt a (1)))) (word_value k ((word_count k + a - (1)) % word_count k)))
 decrements k ws a f = full_decrements k ws 1 a (omega arith) f
 
-pub negations : (k : ℕ) (ws : List Value) (a : ℕ) → a < base k → meaning (negate k) ws (word_value k a) ≡ Some (Pair (word_value 0 (formula.bit (nat_lt 0 (a)))) (word_value k ((base k + 0 - (a)) % base k)))
-negations k ws a f = plain_differences k ws 0 a (base_pos k) f
+pub negations : (k : ℕ) (ws : List Value) (a : ℕ) → a < word_count k → meaning (negate k) ws (word_value k a) ≡ Some (Pair (word_value 0 (formula.bit (nat_lt 0 (a)))) (word_value k ((word_count k + 0 - (a)) % word_count k)))
+negations k ws a f = plain_differences k ws 0 a (count_pos k) f
 
 pub full_subtract_law : IsFormula jet.FullSubtract
 full_subtract_law n w is xs ws all =

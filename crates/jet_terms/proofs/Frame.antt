@@ -3,16 +3,17 @@ use Rattle.std.proofs.Common.{◌≡◌, ℕ, ◌^◌, ◌<◌, List, [], ◌∷
 use Rattle.std.specs.Prelude.{IsTrue, nat_eq, ◌&&◌, ◌||◌}
 use Rattle.std.specs.List.{list_any}
 use Rattle.std.proofs.lemmas.Bool.{eqb-true}
-use Rattle.simplicity.specs.Types.{Kind, Value, UnitValue, Pair, word_value}
+use Rattle.simplicity.specs.Types.{Kind, Value, UnitValue, Pair, word_value, word_count}
 use Rattle.simplicity.specs.Terms.{Term, Answer, meaning}
 use Rattle.simplicity.specs.Canon.{erased}
 use Rattle.simplicity.specs.Widths.{level_of}
-use Rattle.jets.specs.Jet as jet
 use Rattle.jets.specs.Jet.{Jet, is_jet, sizes}
 use Rattle.simplicity.specs.Flowed.{flowed}
 use Rattle.jet_terms.specs.Laws.{AreNumbers}
 use Rattle.simplicity.proofs.Flowed.{arrows_erase}
-use Rattle.jet_terms.proofs.Digits.{Digits, number, tree, base, tree_word, digits}
+use Rattle.simplicity.specs.Digits.{Digits, number, tree}
+use Rattle.simplicity.proofs.Digits.{tree_word, digits}
+use Rattle.jets.specs.Jet as jet
 
 -- what holds at each size holds at the sizes of a jet
 abbrev pub AllSizes : (ℕ → ℕ → Type 0) → List (ℕ × ℕ) → Type 0
@@ -38,13 +39,6 @@ usual_level n w is = sized HasLevel (sizes jet.Add) (refl, (refl, (refl, (refl, 
 
 pub gate_level : (n w : ℕ) → IsTrue (is_jet jet.And n w) → n ≡ 2 ^ level_of n
 gate_level n w is = sized HasLevel (sizes jet.And) (refl, (refl, (refl, (refl, (refl, tt))))) n w is
-
--- a number below the base as digits, as a value
-pub word_of : (k x : ℕ) → x < base k → (d : Digits k) × (number k d ≡ x) × (word_value k x ≡ tree k d)
-word_of k x h = let d = digits k x h in (d.0, d.1, ap (word_value k) (sym d.1) ∙ tree_word k d.0)
-
-pub same_word : (k x : ℕ) (d : Digits k) → number k d ≡ x → Some (tree k d) ≡ Some (word_value k x)
-same_word k x d e = ap Some (sym (tree_word k d) ∙ ap (word_value k) e)
 
 -- over the arguments
 pub args0 : (P : List ℕ → Type 0) → P [] → (xs : List ℕ) → AreNumbers [] xs → P xs
@@ -88,13 +82,13 @@ pub at0 : (t : ℕ → Term) (F : ℕ → ℕ → Answer) → ((k : ℕ) (ws : L
     → (n k : ℕ) → n ≡ 2 ^ k → (source : Kind) (ws : List Value) → meaning (erased (flowed (t k) source)) ws UnitValue ≡ F n k
 at0 t F law n k e source ws = with_arrows (t k) source ws UnitValue (F n k) (law k ws ∙ ap (λ m. F m k) (sym e))
 
-pub at1 : (t : ℕ → Term) (F : ℕ → ℕ → ℕ → Answer) → ((k : ℕ) (ws : List Value) (a : ℕ) → a < base k → meaning (t k) ws (word_value k a) ≡ F (2 ^ k) k a)
+pub at1 : (t : ℕ → Term) (F : ℕ → ℕ → ℕ → Answer) → ((k : ℕ) (ws : List Value) (a : ℕ) → a < word_count k → meaning (t k) ws (word_value k a) ≡ F (2 ^ k) k a)
     → (n k : ℕ) → n ≡ 2 ^ k → (source : Kind) (ws : List Value) (a : ℕ) → a < 2 ^ n → meaning (erased (flowed (t k) source)) ws (word_value k a) ≡ F n k a
 at1 t F law n k e source ws a f =
     with_arrows (t k) source ws (word_value k a) (F n k a) (law k ws a (subst (λ m. a < 2 ^ m) e f) ∙ ap (λ m. F m k a) (sym e))
 
 pub at2 : (t : ℕ → Term) (F : ℕ → ℕ → ℕ → ℕ → Answer)
-    → ((k : ℕ) (ws : List Value) (a b : ℕ) → a < base k → b < base k → meaning (t k) ws (Pair (word_value k a) (word_value k b)) ≡ F (2 ^ k) k a b)
+    → ((k : ℕ) (ws : List Value) (a b : ℕ) → a < word_count k → b < word_count k → meaning (t k) ws (Pair (word_value k a) (word_value k b)) ≡ F (2 ^ k) k a b)
     → (n k : ℕ) → n ≡ 2 ^ k → (source : Kind) (ws : List Value) (a b : ℕ) → a < 2 ^ n → b < 2 ^ n
     → meaning (erased (flowed (t k) source)) ws (Pair (word_value k a) (word_value k b)) ≡ F n k a b
 at2 t F law n k e source ws a b f g =
@@ -102,7 +96,7 @@ at2 t F law n k e source ws a b f g =
       (law k ws a b (subst (λ m. a < 2 ^ m) e f) (subst (λ m. b < 2 ^ m) e g) ∙ ap (λ m. F m k a b) (sym e))
 
 pub at3 : (t : ℕ → Term) (F : ℕ → ℕ → ℕ → ℕ → ℕ → Answer)
-    → ((k : ℕ) (ws : List Value) (a b c : ℕ) → a < base k → b < base k → c < base k → meaning (t k) ws (Pair (word_value k a) (Pair (word_value k b) (word_value k c))) ≡ F (2 ^ k) k a b c)
+    → ((k : ℕ) (ws : List Value) (a b c : ℕ) → a < word_count k → b < word_count k → c < word_count k → meaning (t k) ws (Pair (word_value k a) (Pair (word_value k b) (word_value k c))) ≡ F (2 ^ k) k a b c)
     → (n k : ℕ) → n ≡ 2 ^ k → (source : Kind) (ws : List Value) (a b c : ℕ) → a < 2 ^ n → b < 2 ^ n → c < 2 ^ n
     → meaning (erased (flowed (t k) source)) ws (Pair (word_value k a) (Pair (word_value k b) (word_value k c))) ≡ F n k a b c
 at3 t F law n k e source ws a b c f g h =
@@ -111,7 +105,7 @@ at3 t F law n k e source ws a b c f g h =
 
 -- with a bit in front
 pub at_bit1 : (t : ℕ → Term) (F : ℕ → ℕ → ℕ → ℕ → Answer)
-    → ((k : ℕ) (ws : List Value) (c a : ℕ) → c < base 0 → a < base k → meaning (t k) ws (Pair (word_value 0 c) (word_value k a)) ≡ F (2 ^ k) k c a)
+    → ((k : ℕ) (ws : List Value) (c a : ℕ) → c < word_count 0 → a < word_count k → meaning (t k) ws (Pair (word_value 0 c) (word_value k a)) ≡ F (2 ^ k) k c a)
     → (n k : ℕ) → n ≡ 2 ^ k → (source : Kind) (ws : List Value) (c a : ℕ) → c < 2 ^ 1 → a < 2 ^ n
     → meaning (erased (flowed (t k) source)) ws (Pair (word_value 0 c) (word_value k a)) ≡ F n k c a
 at_bit1 t F law n k e source ws c a f g =
@@ -119,7 +113,7 @@ at_bit1 t F law n k e source ws c a f g =
       (law k ws c a f (subst (λ m. a < 2 ^ m) e g) ∙ ap (λ m. F m k c a) (sym e))
 
 pub at_bit2 : (t : ℕ → Term) (F : ℕ → ℕ → ℕ → ℕ → ℕ → Answer)
-    → ((k : ℕ) (ws : List Value) (c a b : ℕ) → c < base 0 → a < base k → b < base k → meaning (t k) ws (Pair (word_value 0 c) (Pair (word_value k a) (word_value k b))) ≡ F (2 ^ k) k c a b)
+    → ((k : ℕ) (ws : List Value) (c a b : ℕ) → c < word_count 0 → a < word_count k → b < word_count k → meaning (t k) ws (Pair (word_value 0 c) (Pair (word_value k a) (word_value k b))) ≡ F (2 ^ k) k c a b)
     → (n k : ℕ) → n ≡ 2 ^ k → (source : Kind) (ws : List Value) (c a b : ℕ) → c < 2 ^ 1 → a < 2 ^ n → b < 2 ^ n
     → meaning (erased (flowed (t k) source)) ws (Pair (word_value 0 c) (Pair (word_value k a) (word_value k b))) ≡ F n k c a b
 at_bit2 t F law n k e source ws c a b f g h =

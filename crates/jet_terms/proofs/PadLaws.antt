@@ -1,21 +1,19 @@
 -- The pads and extensions compute their formulas.
 use Rattle.std.proofs.Common.{◌≡◌, ℕ, suc, zero, ◌+◌, ◌-◌, ◌*◌, ◌/◌, ◌%◌, ◌^◌, ◌<◌, ◌≤◌, List, refl, sym, ap, ◌∙◌, subst, arith, Some, inl, inr}
-use Rattle.std.specs.Prelude.{IsTrue, nat_eq, nat_lt}
-use Rattle.simplicity.specs.Types.{Value, UnitValue, word_value}
-use Rattle.simplicity.specs.Terms.{Term, Answer, meaning}
+use Rattle.std.specs.Prelude.{IsTrue, nat_eq, nat_lt, if◌then◌else◌}
+use Rattle.simplicity.specs.Types.{Value, UnitValue, word_value, word_count, Inl, Inr}
+use Rattle.simplicity.specs.Terms.{Term, Answer, meaning, PairTerm, UnitTerm, Word}
 use Rattle.simplicity.specs.Widths.{level_of}
-use Rattle.jets.specs.Jet as jet
 use Rattle.jets.specs.Jet.{is_jet, sizes}
-use Rattle.jet_terms.specs.Laws.{source_of, Gives, IsFormula}
-use Rattle.jet_terms.proofs.Digits.{base, base_pos, base_square}
-use Rattle.std.specs.Prelude.{if◌then◌else◌}
+use Rattle.jet_terms.specs.Expansions.{source_of}
+use Rattle.jet_terms.specs.Laws.{Gives, IsFormula}
+use Rattle.simplicity.proofs.Digits.{count_pos, count_square}
 use Rattle.std.proofs.lemmas.Bool.{cases_lt, cases_eq, lt-ltb, le-ltb, eq-eqb, ne_eqb}
 use Rattle.std.proofs.lemmas.Nat.{div-mul-add, pow_pos, pow-add, mul-le}
-use Rattle.simplicity.specs.Types.{Inl, Inr}
-use Rattle.simplicity.specs.Terms.{PairTerm, UnitTerm, Word}
 use Rattle.jet_terms.specs.Trees.{leftmost, rightmost, zeros, ones, cond, left_pad, right_pad, left_extend, right_extend, ◌⨾◌}
 use Rattle.jet_terms.proofs.PartLaws.{up, up_is, up_zero, gap, gap_zero, gap_suc, gap_pos, base_below, pair_number, Spread, widen, leftmosts, rightmosts}
 use Rattle.jet_terms.proofs.Frame.{sized, args1}
+use Rattle.jets.specs.Jet as jet
 
 pub pred_times : (p q : ℕ) → 0 < p → (p - 1) * q + q ≡ p * q
 pred_times zero q h = absurd (omega (arith, h))
@@ -32,43 +30,43 @@ right_ones_step a p b h i =
     omega (arith, e, m, q, i)
 
 -- a pair of a filled half and a word, over any term for the word
-filled_left : (k d x : ℕ) (t : Term) (ws : List Value) (v : Value) (y z : ℕ) → meaning t ws v ≡ Some (word_value (up k d) y) → y < base (up k d) → x * base (up k d) + y ≡ z
+filled_left : (k d x : ℕ) (t : Term) (ws : List Value) (v : Value) (y z : ℕ) → meaning t ws v ≡ Some (word_value (up k d) y) → y < word_count (up k d) → x * word_count (up k d) + y ≡ z
     → meaning (PairTerm (UnitTerm ⨾ Word (up k d) x) t) ws v ≡ Some (word_value (suc (up k d)) z)
 filled_left k d x t ws v y z g s e = rw g (pair_number (up k d) x y z s e)
 
-filled_right : (k d x : ℕ) (t : Term) (ws : List Value) (v : Value) (y z : ℕ) → meaning t ws v ≡ Some (word_value (up k d) y) → x < base (up k d) → y * base (up k d) + x ≡ z
+filled_right : (k d x : ℕ) (t : Term) (ws : List Value) (v : Value) (y z : ℕ) → meaning t ws v ≡ Some (word_value (up k d) y) → x < word_count (up k d) → y * word_count (up k d) + x ≡ z
     → meaning (PairTerm t (UnitTerm ⨾ Word (up k d) x)) ws v ≡ Some (word_value (suc (up k d)) z)
 filled_right k d x t ws v y z g s e = rw g (pair_number (up k d) y x z s e)
 
-pub left_lows : (k d : ℕ) (ws : List Value) (a : ℕ) → a < base k → meaning (left_pad zeros k d) ws (word_value k a) ≡ Some (word_value (up k d) a)
+pub left_lows : (k d : ℕ) (ws : List Value) (a : ℕ) → a < word_count k → meaning (left_pad zeros k d) ws (word_value k a) ≡ Some (word_value (up k d) a)
 left_lows k zero ws a h = refl
 left_lows k (suc d) ws a h =
     let s = base_below k d in
     ap (λ m. meaning (PairTerm (zeros m) (left_pad zeros k d)) ws (word_value k a)) (up_is k d)
       ∙ filled_left k d 0 (left_pad zeros k d) ws (word_value k a) a a (left_lows k d ws a h) (omega (arith, s, h)) (omega arith)
 
-pub left_highs : (k d : ℕ) (ws : List Value) (a : ℕ) → a < base k → meaning (left_pad ones k d) ws (word_value k a) ≡ Some (word_value (up k d) (a + base (up k d) - base k))
-left_highs k zero ws a h = ap (λ x. Some (word_value k x)) (let e : a ≡ a + base k - base k = omega arith in e)
+pub left_highs : (k d : ℕ) (ws : List Value) (a : ℕ) → a < word_count k → meaning (left_pad ones k d) ws (word_value k a) ≡ Some (word_value (up k d) (a + word_count (up k d) - word_count k))
+left_highs k zero ws a h = ap (λ x. Some (word_value k x)) (let e : a ≡ a + word_count k - word_count k = omega arith in e)
 left_highs k (suc d) ws a h =
     let s = base_below k d in
     ap (λ m. meaning (PairTerm (ones m) (left_pad ones k d)) ws (word_value k a)) (up_is k d)
-      ∙ filled_left k d (base (up k d) - 1) (left_pad ones k d) ws (word_value k a) (a + base (up k d) - base k) (a + base (suc (up k d)) - base k) (left_highs k d ws a h) (omega (arith, s, h))
-          (left_ones_step a (base (up k d)) (base k) s (base_pos (up k d)) ∙ ap (λ m. a + m - base k) (sym (base_square (up k d))))
+      ∙ filled_left k d (word_count (up k d) - 1) (left_pad ones k d) ws (word_value k a) (a + word_count (up k d) - word_count k) (a + word_count (suc (up k d)) - word_count k) (left_highs k d ws a h) (omega (arith, s, h))
+          (left_ones_step a (word_count (up k d)) (word_count k) s (count_pos (up k d)) ∙ ap (λ m. a + m - word_count k) (sym (count_square (up k d))))
 
-pub right_lows : (k d : ℕ) (ws : List Value) (a : ℕ) → a < base k → meaning (right_pad zeros k d) ws (word_value k a) ≡ Some (word_value (up k d) (a * gap k d))
+pub right_lows : (k d : ℕ) (ws : List Value) (a : ℕ) → a < word_count k → meaning (right_pad zeros k d) ws (word_value k a) ≡ Some (word_value (up k d) (a * gap k d))
 right_lows k zero ws a h = rw (gap_zero k) (ap (λ x. Some (word_value k x)) (let e : a ≡ a * 1 = omega arith in e))
 right_lows k (suc d) ws a h =
     ap (λ m. meaning (PairTerm (right_pad zeros k d) (zeros m)) ws (word_value k a)) (up_is k d)
-      ∙ filled_right k d 0 (right_pad zeros k d) ws (word_value k a) (a * gap k d) (a * gap k (suc d)) (right_lows k d ws a h) (base_pos (up k d))
-          (let e : a * gap k d * base (up k d) + 0 ≡ a * (gap k d * base (up k d)) = omega arith in e ∙ ap (λ m. a * m) (sym (gap_suc k d)))
+      ∙ filled_right k d 0 (right_pad zeros k d) ws (word_value k a) (a * gap k d) (a * gap k (suc d)) (right_lows k d ws a h) (count_pos (up k d))
+          (let e : a * gap k d * word_count (up k d) + 0 ≡ a * (gap k d * word_count (up k d)) = omega arith in e ∙ ap (λ m. a * m) (sym (gap_suc k d)))
 
-pub right_highs : (k d : ℕ) (ws : List Value) (a : ℕ) → a < base k → meaning (right_pad ones k d) ws (word_value k a) ≡ Some (word_value (up k d) (a * gap k d + (gap k d - 1)))
+pub right_highs : (k d : ℕ) (ws : List Value) (a : ℕ) → a < word_count k → meaning (right_pad ones k d) ws (word_value k a) ≡ Some (word_value (up k d) (a * gap k d + (gap k d - 1)))
 right_highs k zero ws a h = rw (gap_zero k) (ap (λ x. Some (word_value k x)) (let e : a ≡ a * 1 + (1 - 1) = omega arith in e))
 right_highs k (suc d) ws a h =
-    let s = base_pos (up k d) in
+    let s = count_pos (up k d) in
     ap (λ m. meaning (PairTerm (right_pad ones k d) (ones m)) ws (word_value k a)) (up_is k d)
-      ∙ filled_right k d (base (up k d) - 1) (right_pad ones k d) ws (word_value k a) (a * gap k d + (gap k d - 1)) (a * gap k (suc d) + (gap k (suc d) - 1)) (right_highs k d ws a h) (omega (arith, s))
-          (right_ones_step a (gap k d) (base (up k d)) (gap_pos k d) s ∙ ap (λ m. a * m + (m - 1)) (sym (gap_suc k d)))
+      ∙ filled_right k d (word_count (up k d) - 1) (right_pad ones k d) ws (word_value k a) (a * gap k d + (gap k d - 1)) (a * gap k (suc d) + (gap k (suc d) - 1)) (right_highs k d ws a h) (omega (arith, s))
+          (right_ones_step a (gap k d) (word_count (up k d)) (gap_pos k d) s ∙ ap (λ m. a * m + (m - 1)) (sym (gap_suc k d)))
 
 -- by a bit
 pub on_false : (b l r : Term) (ws : List Value) (v : Value) (u : Answer) → meaning b ws v ≡ Some (Inl UnitValue) → meaning l ws v ≡ u → meaning (cond b l r) ws v ≡ u
@@ -77,34 +75,34 @@ on_false b l r ws v u e f = rw e f
 pub on_true : (b l r : Term) (ws : List Value) (v : Value) (u : Answer) → meaning b ws v ≡ Some (Inr UnitValue) → meaning r ws v ≡ u → meaning (cond b l r) ws v ≡ u
 on_true b l r ws v u e f = rw e f
 
-half_base : (k : ℕ) → base k ≡ 2 ^ (2 ^ k - 1) * 2
+half_base : (k : ℕ) → word_count k ≡ 2 ^ (2 ^ k - 1) * 2
 half_base k = let p = pow_pos k in let e : 2 ^ k ≡ (2 ^ k - 1) + 1 = omega (arith, p) in ap (λ n. 2 ^ n) e ∙ pow-add 2 (2 ^ k - 1) 1
 
 first_bit : (k : ℕ) (ws : List Value) (a : ℕ) → meaning (leftmost k) ws (word_value k a) ≡ Some (word_value 0 (a / 2 ^ (2 ^ k - 1)))
 first_bit k ws a = subst (λ m. meaning (leftmost k) ws (word_value m a) ≡ Some (word_value 0 (a / 2 ^ (2 ^ m - 1)))) (up_zero k) (leftmosts 0 k ws a)
 
-last_bit : (k : ℕ) (ws : List Value) (a : ℕ) → a < base k → meaning (rightmost k) ws (word_value k a) ≡ Some (word_value 0 (a % 2))
-last_bit k ws a h = subst (λ m. meaning (rightmost k) ws (word_value m a) ≡ Some (word_value 0 (a % 2))) (up_zero k) (rightmosts 0 k ws a (subst (λ m. a < base m) (sym (up_zero k)) h))
+last_bit : (k : ℕ) (ws : List Value) (a : ℕ) → a < word_count k → meaning (rightmost k) ws (word_value k a) ≡ Some (word_value 0 (a % 2))
+last_bit k ws a h = subst (λ m. meaning (rightmost k) ws (word_value m a) ≡ Some (word_value 0 (a % 2))) (up_zero k) (rightmosts 0 k ws a (subst (λ m. a < word_count m) (sym (up_zero k)) h))
 
-pub left_extends : (k d : ℕ) (ws : List Value) (a : ℕ) → a < base k
-    → meaning (left_extend k d) ws (word_value k a) ≡ Some (word_value (up k d) (if nat_lt a (2 ^ (2 ^ k - 1)) then a else (a + base (up k d) - base k)))
+pub left_extends : (k d : ℕ) (ws : List Value) (a : ℕ) → a < word_count k
+    → meaning (left_extend k d) ws (word_value k a) ≡ Some (word_value (up k d) (if nat_lt a (2 ^ (2 ^ k - 1)) then a else (a + word_count (up k d) - word_count k)))
 left_extends k d ws a h = elim (cases_lt a (2 ^ (2 ^ k - 1))) [ inl p ↦ low p | inr p ↦ high p ]
   where
-    low : a < 2 ^ (2 ^ k - 1) → meaning (left_extend k d) ws (word_value k a) ≡ Some (word_value (up k d) (if nat_lt a (2 ^ (2 ^ k - 1)) then a else (a + base (up k d) - base k)))
+    low : a < 2 ^ (2 ^ k - 1) → meaning (left_extend k d) ws (word_value k a) ≡ Some (word_value (up k d) (if nat_lt a (2 ^ (2 ^ k - 1)) then a else (a + word_count (up k d) - word_count k)))
     low p =
         let e : a ≡ 0 * 2 ^ (2 ^ k - 1) + a = omega arith in
         let q = ap (λ x. x / 2 ^ (2 ^ k - 1)) e ∙ div-mul-add 0 (2 ^ (2 ^ k - 1)) a p in
         rw (lt-ltb a (2 ^ (2 ^ k - 1)) p)
           (on_false (leftmost k) (left_pad zeros k d) (left_pad ones k d) ws (word_value k a) (Some (word_value (up k d) a)) (first_bit k ws a ∙ ap (λ x. Some (word_value 0 x)) q) (left_lows k d ws a h))
-    high : 2 ^ (2 ^ k - 1) ≤ a → meaning (left_extend k d) ws (word_value k a) ≡ Some (word_value (up k d) (if nat_lt a (2 ^ (2 ^ k - 1)) then a else (a + base (up k d) - base k)))
+    high : 2 ^ (2 ^ k - 1) ≤ a → meaning (left_extend k d) ws (word_value k a) ≡ Some (word_value (up k d) (if nat_lt a (2 ^ (2 ^ k - 1)) then a else (a + word_count (up k d) - word_count k)))
     high p =
         let b = half_base k in
         let e : a ≡ 1 * 2 ^ (2 ^ k - 1) + (a - 2 ^ (2 ^ k - 1)) = omega (arith, p) in
         let q = ap (λ x. x / 2 ^ (2 ^ k - 1)) e ∙ div-mul-add 1 (2 ^ (2 ^ k - 1)) (a - 2 ^ (2 ^ k - 1)) (omega (arith, b, h, p)) in
         rw (le-ltb a (2 ^ (2 ^ k - 1)) p)
-          (on_true (leftmost k) (left_pad zeros k d) (left_pad ones k d) ws (word_value k a) (Some (word_value (up k d) (a + base (up k d) - base k))) (first_bit k ws a ∙ ap (λ x. Some (word_value 0 x)) q) (left_highs k d ws a h))
+          (on_true (leftmost k) (left_pad zeros k d) (left_pad ones k d) ws (word_value k a) (Some (word_value (up k d) (a + word_count (up k d) - word_count k))) (first_bit k ws a ∙ ap (λ x. Some (word_value 0 x)) q) (left_highs k d ws a h))
 
-pub right_extends : (k d : ℕ) (ws : List Value) (a : ℕ) → a < base k
+pub right_extends : (k d : ℕ) (ws : List Value) (a : ℕ) → a < word_count k
     → meaning (right_extend k d) ws (word_value k a) ≡ Some (word_value (up k d) (if nat_eq (a % 2) 0 then (a * gap k d) else (a * gap k d + (gap k d - 1))))
 right_extends k d ws a h = elim (cases_eq (a % 2) 0) [ inl p ↦ low p | inr p ↦ high p ]
   where

@@ -1,34 +1,35 @@
 -- The divisions compute their formulas.
 use Rattle.std.proofs.Common.{◌≡◌, ℕ, suc, zero, ◌<◌, List, Bool, true, false, refl, ap, ◌∙◌, arith, Some}
 use Rattle.std.specs.Prelude.{nat_eq}
-use Rattle.simplicity.specs.Types.{Value, Pair, word_value}
-use Rattle.simplicity.specs.Terms.{Term, Answer, meaning}
+use Rattle.simplicity.specs.Types.{Value, Pair, word_value, bit_value, word_count}
+use Rattle.simplicity.specs.Terms.{Term, Answer, meaning, PairTerm}
 use Rattle.simplicity.specs.Widths.{level_of}
-use Rattle.jets.specs.Jet as jet
 use Rattle.jets.specs.Jet.{is_jet, sizes}
-use Rattle.jets.specs.Formula as formula
-use Rattle.jet_terms.specs.Laws.{source_of, Gives, IsFormula}
-use Rattle.jet_terms.proofs.Digits.{Digits, number, tree, bit_tree, base}
+use Rattle.jet_terms.specs.Expansions.{source_of}
+use Rattle.jet_terms.specs.Laws.{Gives, IsFormula}
+use Rattle.simplicity.specs.Digits.{Digits, number, tree}
 use Rattle.std.proofs.lemmas.Bool.{ne_eqb}
 use Rattle.std.proofs.lemmas.Nat.{mod_below}
-use Rattle.simplicity.specs.Terms.{PairTerm}
 use Rattle.jet_terms.specs.Trees.{some_bit, is_zero, div_mod, divide, modulo, divides, ◌⨾◌, O, I, H}
 use Rattle.jet_terms.proofs.Compare.{Less, less, more, somes}
 use Rattle.jet_terms.proofs.Division.{div_mods}
 use Rattle.jet_terms.proofs.GateLaws.{zero_tests}
-use Rattle.jet_terms.proofs.Frame.{usual_level, word_of, args2, at2}
+use Rattle.jet_terms.proofs.Frame.{usual_level, args2, at2}
+use Rattle.simplicity.proofs.Digits.{word_digits}
+use Rattle.jets.specs.Jet as jet
+use Rattle.jets.specs.Formula as formula
 
 not_zero : (b : ℕ) → nat_eq (suc b) 0 ≡ false
 not_zero b = ne_eqb (suc b) 0 (λ e. omega (arith, e))
 
-none_by : (k : ℕ) (ws : List Value) (v : Value) (b : Digits k) (r : Bool) → meaning (some_bit k) ws (tree k b) ≡ Some (bit_tree r) → Less 0 (number k b) r → number k b ≡ 0
+none_by : (k : ℕ) (ws : List Value) (v : Value) (b : Digits k) (r : Bool) → meaning (some_bit k) ws (tree k b) ≡ Some (bit_value r) → Less 0 (number k b) r → number k b ≡ 0
     → meaning (div_mod k) ws (Pair v (tree k b)) ≡ Some (Pair (word_value k 0) v)
 none_by k ws v b true g (less h) e = absurd (omega (arith, h, e))
 none_by k ws v b false g (more h) e = rw g refl
 
-pub quotients : (k : ℕ) (ws : List Value) (a b : ℕ) → a < base k → b < base k → meaning (div_mod k) ws (Pair (word_value k a) (word_value k b)) ≡ Some (Pair (word_value k (formula.quotient a b)) (word_value k (formula.rest a b)))
+pub quotients : (k : ℕ) (ws : List Value) (a b : ℕ) → a < word_count k → b < word_count k → meaning (div_mod k) ws (Pair (word_value k a) (word_value k b)) ≡ Some (Pair (word_value k (formula.quotient a b)) (word_value k (formula.rest a b)))
 quotients k ws a zero f g =
-    let y = word_of k 0 g in
+    let y = word_digits k 0 g in
     let t = somes k ws y.0 in
     ap (λ v. meaning (div_mod k) ws (Pair (word_value k a) v)) (y.2) ∙ none_by k ws (word_value k a) y.0 t.answer t.gives t.law y.1
 quotients k ws a (suc b) f g = rw (not_zero b) (div_mods k ws a (suc b) f g (omega arith))
@@ -39,10 +40,10 @@ first_part t ws v p q e = rw e refl
 second_part : (t : Term) (ws : List Value) (v p q : Value) → meaning t ws v ≡ Some (Pair p q) → meaning (t ⨾ I H) ws v ≡ Some q
 second_part t ws v p q e = rw e refl
 
-pub divisions : (k : ℕ) (ws : List Value) (a b : ℕ) → a < base k → b < base k → meaning (divide k) ws (Pair (word_value k a) (word_value k b)) ≡ Some (word_value k (formula.quotient a b))
+pub divisions : (k : ℕ) (ws : List Value) (a b : ℕ) → a < word_count k → b < word_count k → meaning (divide k) ws (Pair (word_value k a) (word_value k b)) ≡ Some (word_value k (formula.quotient a b))
 divisions k ws a b f g = first_part (div_mod k) ws (Pair (word_value k a) (word_value k b)) (word_value k (formula.quotient a b)) (word_value k (formula.rest a b)) (quotients k ws a b f g)
 
-pub rests : (k : ℕ) (ws : List Value) (a b : ℕ) → a < base k → b < base k → meaning (modulo k) ws (Pair (word_value k a) (word_value k b)) ≡ Some (word_value k (formula.rest a b))
+pub rests : (k : ℕ) (ws : List Value) (a b : ℕ) → a < word_count k → b < word_count k → meaning (modulo k) ws (Pair (word_value k a) (word_value k b)) ≡ Some (word_value k (formula.rest a b))
 rests k ws a b f g = second_part (div_mod k) ws (Pair (word_value k a) (word_value k b)) (word_value k (formula.quotient a b)) (word_value k (formula.rest a b)) (quotients k ws a b f g)
 
 rest_below : (m a b : ℕ) → a < m → b < m → formula.rest a b < m
@@ -52,10 +53,10 @@ rest_below m a (suc b) f g = rw (not_zero b) (let r = mod_below a (suc b) (omega
 swapped : (s t : Term) (ws : List Value) (a b u : Value) (r : Answer) → meaning s ws (Pair b a) ≡ Some u → meaning t ws u ≡ r → meaning (PairTerm (I H) (O H) ⨾ s ⨾ t) ws (Pair a b) ≡ r
 swapped s t ws a b u r e f = rw e f
 
-pub divide_tests : (k : ℕ) (ws : List Value) (a b : ℕ) → a < base k → b < base k → meaning (divides k) ws (Pair (word_value k a) (word_value k b)) ≡ Some (word_value 0 (formula.bit (nat_eq (formula.rest b a) 0)))
+pub divide_tests : (k : ℕ) (ws : List Value) (a b : ℕ) → a < word_count k → b < word_count k → meaning (divides k) ws (Pair (word_value k a) (word_value k b)) ≡ Some (word_value 0 (formula.bit (nat_eq (formula.rest b a) 0)))
 divide_tests k ws a b f g =
     swapped (modulo k) (is_zero k) ws (word_value k a) (word_value k b) (word_value k (formula.rest b a)) (Some (word_value 0 (formula.bit (nat_eq (formula.rest b a) 0))))
-      (rests k ws b a g f) (zero_tests k ws (formula.rest b a) (rest_below (base k) b a g f))
+      (rests k ws b a g f) (zero_tests k ws (formula.rest b a) (rest_below (word_count k) b a g f))
 
 pub div_mod_law : IsFormula jet.DivMod
 div_mod_law n w is xs ws all =

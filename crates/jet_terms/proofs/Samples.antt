@@ -1,7 +1,7 @@
 -- Rows computed.
 use Rattle.std.proofs.Common.{[], ◌∷◌, refl}
-use Rattle.jets.specs.Jet as jet
 use Rattle.jet_terms.specs.Laws.{Gives}
+use Rattle.jets.specs.Jet as jet
 
 row_0 : Gives jet.Add 8 8 [] (200 ∷ 100 ∷ [])
 row_0 = refl

@@ -1,10 +1,11 @@
 -- Shifts by halves.
 use Rattle.std.proofs.Common.{◌≡◌, ℕ, zero, suc, ◌+◌, ◌*◌, ◌/◌, ◌%◌, ◌^◌, ◌<◌, List, Bool, true, false, refl, sym, ap, ◌∙◌, arith, Some}
 use Rattle.std.proofs.lemmas.Nat.{div-mul-add, mod-mul-add, mul-add-lt, mod_below, div-add-mod'}
-use Rattle.simplicity.specs.Types.{Value, UnitValue, Pair}
+use Rattle.simplicity.specs.Types.{Value, UnitValue, Pair, bit_value, word_count}
 use Rattle.simplicity.specs.Terms.{Term, meaning}
 use Rattle.jet_terms.specs.Trees.{shifted_left, shifted_right}
-use Rattle.jet_terms.proofs.Digits.{Digits, number, tree, bit_tree, bit, base, base_pos, base_square, number_below}
+use Rattle.simplicity.specs.Digits.{Digits, number, tree, bit_number}
+use Rattle.simplicity.proofs.Digits.{count_pos, count_square, number_below}
 
 -- the bits of an amount, the highest first
 abbrev pub Amount : ℕ → Type 0
@@ -13,28 +14,28 @@ Amount (suc k) = Bool × Amount k
 
 abbrev pub amount_tree : (k : ℕ) → Amount k → Value
 amount_tree zero s = UnitValue
-amount_tree (suc k) s = Pair (bit_tree s.0) (amount_tree k s.1)
+amount_tree (suc k) s = Pair (bit_value s.0) (amount_tree k s.1)
 
 abbrev pub amount : (k : ℕ) → Amount k → ℕ
 amount zero s = 0
-amount (suc k) s = bit s.0 * 2 ^ k + amount k s.1
+amount (suc k) s = bit_number s.0 * 2 ^ k + amount k s.1
 
--- two to the amount, and the base over it
+-- two to the amount, and the word_count over it
 abbrev pub factor : (k : ℕ) → Amount k → ℕ
 factor zero s = 1
-factor (suc k) s = elim s.0 [ false ↦ factor k s.1 | true ↦ factor k s.1 * base k ]
+factor (suc k) s = elim s.0 [ false ↦ factor k s.1 | true ↦ factor k s.1 * word_count k ]
 
 abbrev pub cofactor : (k : ℕ) → Amount k → ℕ
 cofactor zero s = 2
-cofactor (suc k) s = elim s.0 [ false ↦ cofactor k s.1 * base k | true ↦ cofactor k s.1 ]
+cofactor (suc k) s = elim s.0 [ false ↦ cofactor k s.1 * word_count k | true ↦ cofactor k s.1 ]
 
 whole_step : (b : Bool) (B P Q : ℕ) → P * Q ≡ B → elim b [ false ↦ P | true ↦ P * B ] * elim b [ false ↦ Q * B | true ↦ Q ] ≡ B * B
 whole_step false B P Q e = omega (arith, ap (λ x. x * B) e)
 whole_step true B P Q e = omega (arith, ap (λ x. x * B) e)
 
-pub whole : (k : ℕ) (s : Amount k) → factor k s * cofactor k s ≡ base k
+pub whole : (k : ℕ) (s : Amount k) → factor k s * cofactor k s ≡ word_count k
 whole zero s = refl
-whole (suc k) s = whole_step s.0 (base k) (factor k s.1) (cofactor k s.1) (whole k s.1) ∙ sym (base_square k)
+whole (suc k) s = whole_step s.0 (word_count k) (factor k s.1) (cofactor k s.1) (whole k s.1) ∙ sym (count_square k)
 
 positive : (P Q B : ℕ) → P * Q ≡ B → 0 < B → (0 < P) × (0 < Q)
 positive zero Q B e h = absurd (omega (arith, e))
@@ -89,12 +90,12 @@ lefts_by : (k : ℕ) (w : List Value) (b : Bool) (s : Amount k) (h l : Digits (s
 lefts_by k w false s h l p q r = record {
     result = (p.result, q.result);
     gives = rw (p.gives, q.gives) refl;
-    law = rw (p.law, q.law) (early_step (number k h.0) (number k h.1) (number k l.0) (number k l.1) (factor k s) (cofactor k s) (base k) (whole k s) ((positive (factor k s) (cofactor k s) (base k) (whole k s) (base_pos k)).1) (number_below k h.1) (number_below k l.1));
+    law = rw (p.law, q.law) (early_step (number k h.0) (number k h.1) (number k l.0) (number k l.1) (factor k s) (cofactor k s) (word_count k) (whole k s) ((positive (factor k s) (cofactor k s) (word_count k) (whole k s) (count_pos k)).1) (number_below k h.1) (number_below k l.1));
   }
 lefts_by k w true s h l p q r = record {
     result = (q.result, r.result);
     gives = rw (q.gives, r.gives) refl;
-    law = rw (q.law, r.law) (late_step (number k h.0) (number k h.1) (number k l.0) (number k l.1) (factor k s) (cofactor k s) (base k) (whole k s) ((positive (factor k s) (cofactor k s) (base k) (whole k s) (base_pos k)).1));
+    law = rw (q.law, r.law) (late_step (number k h.0) (number k h.1) (number k l.0) (number k l.1) (factor k s) (cofactor k s) (word_count k) (whole k s) ((positive (factor k s) (cofactor k s) (word_count k) (whole k s) (count_pos k)).1));
   }
 
 pub lefts : (k : ℕ) (w : List Value) (s : Amount k) (h l : Digits k) → Lefts k w s h l
@@ -108,18 +109,18 @@ rights_by : (k : ℕ) (w : List Value) (b : Bool) (s : Amount k) (h l : Digits (
 rights_by k w false s h l p q r = record {
     result = (q.result, r.result);
     gives = rw (q.gives, r.gives) refl;
-    law = rw (q.law, r.law) (late_step (number k h.0) (number k h.1) (number k l.0) (number k l.1) (cofactor k s) (factor k s) (base k) (turn k s) ((positive (factor k s) (cofactor k s) (base k) (whole k s) (base_pos k)).0));
+    law = rw (q.law, r.law) (late_step (number k h.0) (number k h.1) (number k l.0) (number k l.1) (cofactor k s) (factor k s) (word_count k) (turn k s) ((positive (factor k s) (cofactor k s) (word_count k) (whole k s) (count_pos k)).0));
   }
   where
-    turn : (k : ℕ) (s : Amount k) → cofactor k s * factor k s ≡ base k
+    turn : (k : ℕ) (s : Amount k) → cofactor k s * factor k s ≡ word_count k
     turn k s = omega (arith, whole k s)
 rights_by k w true s h l p q r = record {
     result = (p.result, q.result);
     gives = rw (p.gives, q.gives) refl;
-    law = rw (p.law, q.law) (early_step (number k h.0) (number k h.1) (number k l.0) (number k l.1) (cofactor k s) (factor k s) (base k) (turn k s) ((positive (factor k s) (cofactor k s) (base k) (whole k s) (base_pos k)).0) (number_below k h.1) (number_below k l.1));
+    law = rw (p.law, q.law) (early_step (number k h.0) (number k h.1) (number k l.0) (number k l.1) (cofactor k s) (factor k s) (word_count k) (turn k s) ((positive (factor k s) (cofactor k s) (word_count k) (whole k s) (count_pos k)).0) (number_below k h.1) (number_below k l.1));
   }
   where
-    turn : (k : ℕ) (s : Amount k) → cofactor k s * factor k s ≡ base k
+    turn : (k : ℕ) (s : Amount k) → cofactor k s * factor k s ≡ word_count k
     turn k s = omega (arith, whole k s)
 
 pub rights : (k : ℕ) (w : List Value) (s : Amount k) (h l : Digits k) → Rights k w s h l

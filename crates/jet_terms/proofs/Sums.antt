@@ -1,9 +1,10 @@
 -- Sums and products by halves.
 use Rattle.std.proofs.Common.{◌≡◌, ℕ, zero, suc, ◌+◌, ◌*◌, List, Bool, true, false, refl, ap, arith, Some}
-use Rattle.simplicity.specs.Types.{Value, Pair}
+use Rattle.simplicity.specs.Types.{Value, Pair, bit_value, word_count}
 use Rattle.simplicity.specs.Terms.{meaning}
 use Rattle.jet_terms.specs.Trees.{full_add, full_multiply}
-use Rattle.jet_terms.proofs.Digits.{Digits, number, tree, bit_tree, bit, base, base_square}
+use Rattle.simplicity.specs.Digits.{Digits, number, tree, bit_number}
+use Rattle.simplicity.proofs.Digits.{count_square}
 
 add_step : (B c m n h l ah al bh bl : ℕ) → m * B + l ≡ c + al + bl → n * B + h ≡ m + ah + bh → n * (B * B) + (h * B + l) ≡ c + (ah * B + al) + (bh * B + bl)
 add_step B c m n h l ah al bh bl low high = omega (arith, low, ap (λ x. x * B) high)
@@ -11,8 +12,8 @@ add_step B c m n h l ah al bh bl low high = omega (arith, low, ap (λ x. x * B) 
 pub record Adds (k : ℕ) (w : List Value) (c : Bool) (a b : Digits k) : Type 0 where
   pub carry : Bool
   pub total : Digits k
-  pub gives : meaning (full_add k) w (Pair (bit_tree c) (Pair (tree k a) (tree k b))) ≡ Some (Pair (bit_tree carry) (tree k total))
-  pub law : bit carry * base k + number k total ≡ bit c + number k a + number k b
+  pub gives : meaning (full_add k) w (Pair (bit_value c) (Pair (tree k a) (tree k b))) ≡ Some (Pair (bit_value carry) (tree k total))
+  pub law : bit_number carry * word_count k + number k total ≡ bit_number c + number k a + number k b
 
 pub adds : (k : ℕ) (w : List Value) (c : Bool) (a b : Digits k) → Adds k w c a b
 adds zero w false false false = record { carry = false; total = false; gives = refl; law = refl }
@@ -30,7 +31,7 @@ adds (suc k) w c a b =
       carry = high.carry;
       total = (high.total, low.total);
       gives = rw (low.gives) (rw (high.gives) refl);
-      law = rw (base_square k) (add_step (base k) (bit c) (bit low.carry) (bit high.carry) (number k high.total) (number k low.total) (number k a.0) (number k a.1) (number k b.0) (number k b.1) low.law high.law);
+      law = rw (count_square k) (add_step (word_count k) (bit_number c) (bit_number low.carry) (bit_number high.carry) (number k high.total) (number k low.total) (number k a.0) (number k a.1) (number k b.0) (number k b.1) low.law high.law);
     }
 
 multiply_step : (B ah al bh bl ch cl dh dl p1h p1l p2h p2l p3h p3l p4h p4l : ℕ)
@@ -60,7 +61,7 @@ multiplies (suc k) w a b c d =
     record {
       product = (p4.product, (p3.product.1, p1.product.1));
       gives = rw (p1.gives) (rw (p2.gives) (rw (p3.gives) (rw (p4.gives) refl)));
-      law = rw (base_square k) (multiply_step (base k) (number k a.0) (number k a.1) (number k b.0) (number k b.1) (number k c.0) (number k c.1) (number k d.0) (number k d.1)
+      law = rw (count_square k) (multiply_step (word_count k) (number k a.0) (number k a.1) (number k b.0) (number k b.1) (number k c.0) (number k c.1) (number k d.0) (number k d.1)
           (number k p1.product.0) (number k p1.product.1) (number k p2.product.0) (number k p2.product.1) (number k p3.product.0) (number k p3.product.1) (number k p4.product.0) (number k p4.product.1)
           p1.law p2.law p3.law p4.law);
     }

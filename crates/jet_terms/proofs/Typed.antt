@@ -5,40 +5,15 @@ use Rattle.std.proofs.lemmas.List.{length-append, length-map, length-drop}
 use Rattle.simplicity.specs.Types.{Kind, One, Product, word_kind}
 use Rattle.simplicity.specs.Typing.{IsTyped, TypedIden, TypedUnit, TypedInjl, TypedInjr, TypedTake, TypedDrop, TypedComp, TypedCase, TypedAssertR, TypedPair, TypedWord}
 use Rattle.simplicity.specs.Terms.{Term, PairTerm, Injl, Injr, UnitTerm, Case}
-use Rattle.simplicity.specs.Terms as plain
 use Rattle.jet_terms.specs.Trees.{lift1, lift2, lift3, not_1, and_1, or_1, xor_1, maj_1, xor_xor_1, ch_1, complement, zeros, ones, verify, some_bit, all_bits, is_zero, is_one, eq, lt, le, least, greatest, median, full_add, add, full_subtract, subtract, full_increment, increment, full_decrement, decrement, negate, full_multiply, multiply, div_step, division, div_mod, divide, modulo, divides, leftmost, rightmost, left_pad, right_pad, left_extend, right_extend, cond, bit_paths, nested, bits, any_of, fill, or_fill, shifted_left, shifted_right, left_shift_with, right_shift_with, left_shift, right_shift, left_rotate, right_rotate, ◌⨾◌, O, I, H}
 use Rattle.jet_terms.proofs.PartLaws.{up, up_is, up_zero}
-use Rattle.simplicity.specs.Flowed.{target, first_of, second_of, left_of, right_of, Fits}
-
-pub typed : (ws : List Kind) (t : Term) (a : Kind) → Fits t a → IsTyped ws t a (target t a)
-typed ws plain.Iden a h = TypedIden a
-typed ws plain.UnitTerm a h = TypedUnit a
-typed ws (plain.Comp s t) a h = TypedComp s t a (target s a) (target t (target s a)) (typed ws s a h.0) (typed ws t (target s a) h.1)
-typed ws (plain.Injl t) a h = TypedInjl t a (target t a) One (typed ws t a h)
-typed ws (plain.Injr t) a h = TypedInjr t a One (target t a) (typed ws t a h)
-typed ws (plain.Case s t) a h =
-    let l = Product (left_of (first_of a)) (second_of a) in
-    let r = Product (right_of (first_of a)) (second_of a) in
-    subst (λ b. IsTyped ws (plain.Case s t) b (target s (Product (left_of (first_of a)) (second_of a)))) (sym h.0)
-      (TypedCase s t (left_of (first_of a)) (right_of (first_of a)) (second_of a) (target s (Product (left_of (first_of a)) (second_of a)))
-        (typed ws s (Product (left_of (first_of a)) (second_of a)) h.1)
-        (subst (λ d. IsTyped ws t (Product (right_of (first_of a)) (second_of a)) d) (sym h.3) (typed ws t (Product (right_of (first_of a)) (second_of a)) h.2)))
-typed ws (plain.PairTerm s t) a h = TypedPair s t a (target s a) (target t a) (typed ws s a h.0) (typed ws t a h.1)
-typed ws (plain.Take t) a h =
-    subst (λ b. IsTyped ws (plain.Take t) b (target t (first_of a))) (sym h.0) (TypedTake t (first_of a) (second_of a) (target t (first_of a)) (typed ws t (first_of a) h.1))
-typed ws (plain.Drop t) a h =
-    subst (λ b. IsTyped ws (plain.Drop t) b (target t (second_of a))) (sym h.0) (TypedDrop t (first_of a) (second_of a) (target t (second_of a)) (typed ws t (second_of a) h.1))
-typed ws (plain.Word k n) a h = subst (λ b. IsTyped ws (plain.Word k n) b (word_kind k)) (sym h) (TypedWord k n)
-typed ws (plain.Witness n) a h = absurd h
-typed ws (plain.AssertL s g) a h = absurd h
-typed ws (plain.AssertR g t) a h =
-    subst (λ b. IsTyped ws (plain.AssertR g t) b (target t (Product (right_of (first_of a)) (second_of a)))) (sym h.0)
-      (TypedAssertR g t (left_of (first_of a)) (right_of (first_of a)) (second_of a) (target t (Product (right_of (first_of a)) (second_of a))) (typed ws t (Product (right_of (first_of a)) (second_of a)) h.1))
-typed ws (plain.Fail e) a h = absurd h
+use Rattle.simplicity.specs.Flowed.{leads_to, StartsFrom}
+use Rattle.simplicity.specs.Makes.{first_of, second_of, left_of, right_of}
+use Rattle.simplicity.specs.Terms as plain
 
 -- from this type to that
 abbrev pub Leads : Term → Kind → Kind → Type 0
-Leads t a b = Fits t a × (target t a ≡ b)
+Leads t a b = StartsFrom t a × (leads_to t a ≡ b)
 
 abbrev pub bit_kind : Kind
 bit_kind = word_kind 0
@@ -56,14 +31,14 @@ pub zeros_lead : (k : ℕ) (a : Kind) → Leads (zeros k) a (word_kind k)
 zeros_lead k a = ((tt, refl), refl)
 
 pub comp_leads : (s t : Term) (a b c : Kind) → Leads s a b → Leads t b c → Leads (s ⨾ t) a c
-comp_leads s t a b c h i = ((h.0, subst (λ x. Fits t x) (sym h.1) i.0), ap (target t) h.1 ∙ i.1)
+comp_leads s t a b c h i = ((h.0, subst (λ x. StartsFrom t x) (sym h.1) i.0), ap (leads_to t) h.1 ∙ i.1)
 
 pub pair_leads : (s t : Term) (a b c : Kind) → Leads s a b → Leads t a c → Leads (PairTerm s t) a (Product b c)
 pair_leads s t a b c h i = ((h.0, i.0), rw (h.1, i.1) refl)
 
 pub cond_leads : (b l r : Term) (a c : Kind) → Leads b a bit_kind → Leads l a c → Leads r a c → Leads (cond b l r) a c
 cond_leads b l r a c f g h =
-    ((assumption f.0, subst (λ x. Fits (Case (I l) (I r)) (Product x a)) (sym f.1) (refl, (refl, g.0), (refl, h.0), g.1 ∙ sym h.1)), g.1)
+    ((assumption f.0, subst (λ x. StartsFrom (Case (I l) (I r)) (Product x a)) (sym f.1) (refl, (refl, g.0), (refl, h.0), g.1 ∙ sym h.1)), g.1)
 
 zero_first : (t : Term) (a b : Kind) → Leads t (Product bit_kind a) b → Leads (PairTerm (Injl UnitTerm) H ⨾ t) a b
 zero_first t a b h = comp_leads (PairTerm (Injl UnitTerm) H) t a (Product bit_kind a) b (assumption refl, refl) h
