@@ -1,5 +1,5 @@
 -- The parts of this compiler that the terms of programs are given: what jets and loops become.
-use Rattle.std.specs.Prelude.{ℕ, List, Option, option_map}
+use Rattle.std.specs.Prelude.{option_map}
 use Rattle.simplicity.specs.Canon.{Declared}
 use Rattle.simplicity.specs.Widths.{level_of}
 use Rattle.simplicityhl.specs.Kinds.{bound_level}

@@ -1,5 +1,5 @@
 -- The term of each jet is typed.
-use Rattle.std.proofs.Common.{◌-◌, [], sym, subst}
+use Rattle.std.proofs.Common.{◌-◌, sym, subst}
 use Rattle.simplicity.specs.Types.{Kind, One, word_kind}
 use Rattle.simplicity.specs.Arrows.{IsTypedFrom}
 use Rattle.simplicity.specs.Flowed.{flowed}

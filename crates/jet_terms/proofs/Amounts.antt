@@ -59,8 +59,8 @@ paths_give : (j : ℕ) (ws : List Value) (s : Digits j) → GiveBits ws (tree j 
 paths_give zero ws b = (refl, tt)
 paths_give (suc j) ws s =
     give_both ws (tree (suc j) s) (map O (bit_paths j)) (bools j s.0) (map I (bit_paths j)) (bools j s.1)
-      (give_first ws (tree j s.0) (tree j s.1) (bit_paths j) (bools j s.0) (paths_give j ws s.0))
-      (give_second ws (tree j s.0) (tree j s.1) (bit_paths j) (bools j s.1) (paths_give j ws s.1))
+    (give_first ws (tree j s.0) (tree j s.1) (bit_paths j) (bools j s.0) (paths_give j ws s.0))
+    (give_second ws (tree j s.0) (tree j s.1) (bit_paths j) (bools j s.1) (paths_give j ws s.1))
 
 abbrev pub value_of : List Bool → ℕ
 value_of [] = 0
@@ -73,7 +73,7 @@ value_append : (xs ys : List Bool) → value_of (xs ++ ys) ≡ value_of xs * 2 ^
 value_append [] ys = omega arith
 value_append (x ∷ xs) ys =
     ap (λ n. bit_number x * 2 ^ length (xs ++ ys) + n) (value_append xs ys)
-      ∙ value_step (bit_number x) (2 ^ length xs) (2 ^ length ys) (value_of xs) (value_of ys) (2 ^ length (xs ++ ys)) (ap (λ n. 2 ^ n) (length-append xs ys) ∙ pow-add 2 (length xs) (length ys))
+    ∙ value_step (bit_number x) (2 ^ length xs) (2 ^ length ys) (value_of xs) (value_of ys) (2 ^ length (xs ++ ys)) (ap (λ n. 2 ^ n) (length-append xs ys) ∙ pow-add 2 (length xs) (length ys))
 
 bools_length : (j : ℕ) (s : Digits j) → length (bools j s) ≡ 2 ^ j
 bools_length zero b = refl
@@ -161,7 +161,7 @@ split j k ws s h =
       low = a.0;
       gives = nested_gives ws (tree j s) (drop (2 ^ j - k) (bit_paths j)) (drop (2 ^ j - k) (bools j s)) (give_dropped ws (tree j s) (2 ^ j - k) (bit_paths j) (bools j s) (paths_give j ws s)) ∙ ap Some (sym a.1);
       sum = rw (a.2) (ap (λ n. value_of (take (2 ^ j - k) (bools j s)) * 2 ^ n + value_of (drop (2 ^ j - k) (bools j s))) (sym long)
-        ∙ sym (value_append (take (2 ^ j - k) (bools j s)) (drop (2 ^ j - k) (bools j s))) ∙ ap value_of (take-append-drop (2 ^ j - k) (bools j s)) ∙ bools_value j s);
+          ∙ sym (value_append (take (2 ^ j - k) (bools j s)) (drop (2 ^ j - k) (bools j s))) ∙ ap value_of (take-append-drop (2 ^ j - k) (bools j s)) ∙ bools_value j s);
       small = subst (λ n. n < 2 ^ k) (sym a.2) (subst (λ n. value_of (drop (2 ^ j - k) (bools j s)) < 2 ^ n) long (value_below (drop (2 ^ j - k) (bools j s))));
       over = overs ws (tree j s) (take (2 ^ j - k) (bit_paths j)) (take (2 ^ j - k) (bools j s)) (give_taken ws (tree j s) (2 ^ j - k) (bit_paths j) (bools j s) (paths_give j ws s));
     }

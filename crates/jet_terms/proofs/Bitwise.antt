@@ -63,8 +63,14 @@ each_chosen (suc k) a b c = rw (each_chosen k a.0 b.0 c.0, each_chosen k a.1 b.1
 pub number_most : (k : ℕ) (a b c : Digits k)
     → number k (each3 most k a b c) ≡ bit_or (bit_or (bit_and (number k a) (number k b)) (bit_and (number k a) (number k c))) (bit_and (number k b) (number k c))
 number_most k a b c =
-    rw (each_most k a b c, number_or k (each2 ◌||◌ k (each2 ◌&&◌ k a b) (each2 ◌&&◌ k a c)) (each2 ◌&&◌ k b c), number_or k (each2 ◌&&◌ k a b) (each2 ◌&&◌ k a c),
-        number_and k a b, number_and k a c, number_and k b c) refl
+    rw (
+      each_most k a b c,
+      number_or k (each2 ◌||◌ k (each2 ◌&&◌ k a b) (each2 ◌&&◌ k a c)) (each2 ◌&&◌ k b c),
+      number_or k (each2 ◌&&◌ k a b) (each2 ◌&&◌ k a c),
+      number_and k a b,
+      number_and k a c,
+      number_and k b c,
+    ) refl
 
 pub number_odd : (k : ℕ) (a b c : Digits k) → number k (each3 odd k a b c) ≡ bit_xor (bit_xor (number k a) (number k b)) (number k c)
 number_odd k a b c = rw (each_odd k a b c, number_xor k (each2 either_one k a b) c, number_xor k a b) refl

@@ -57,24 +57,24 @@ negations k ws a f = plain_differences k ws 0 a (count_pos k) f
 pub full_subtract_law : IsFormula jet.FullSubtract
 full_subtract_law n w is xs ws all =
     args3 jet.Truth (jet.Number n) (jet.Number n) (Gives jet.FullSubtract n w ws)
-      (at_bit2 full_subtract (λ n k c a b. Some (Pair (word_value 0 (formula.bit (nat_lt a (b + c)))) (word_value k ((2 ^ n + a - (b + c)) % 2 ^ n)))) full_differences n (level_of n) (usual_level n w is) (source_of jet.FullSubtract n w) ws) xs all
+    (at_bit2 full_subtract (λ n k c a b. Some (Pair (word_value 0 (formula.bit (nat_lt a (b + c)))) (word_value k ((2 ^ n + a - (b + c)) % 2 ^ n)))) full_differences n (level_of n) (usual_level n w is) (source_of jet.FullSubtract n w) ws) xs all
 
 pub subtract_law : IsFormula jet.Subtract
 subtract_law n w is xs ws all =
     args2 (jet.Number n) (jet.Number n) (Gives jet.Subtract n w ws)
-      (at2 subtract (λ n k a b. Some (Pair (word_value 0 (formula.bit (nat_lt a (b)))) (word_value k ((2 ^ n + a - (b)) % 2 ^ n)))) plain_differences n (level_of n) (usual_level n w is) (source_of jet.Subtract n w) ws) xs all
+    (at2 subtract (λ n k a b. Some (Pair (word_value 0 (formula.bit (nat_lt a (b)))) (word_value k ((2 ^ n + a - (b)) % 2 ^ n)))) plain_differences n (level_of n) (usual_level n w is) (source_of jet.Subtract n w) ws) xs all
 
 pub full_decrement_law : IsFormula jet.FullDecrement
 full_decrement_law n w is xs ws all =
     args2 jet.Truth (jet.Number n) (Gives jet.FullDecrement n w ws)
-      (at_bit1 full_decrement (λ n k c a. Some (Pair (word_value 0 (formula.bit (nat_lt a (c)))) (word_value k ((2 ^ n + a - (c)) % 2 ^ n)))) full_decrements n (level_of n) (usual_level n w is) (source_of jet.FullDecrement n w) ws) xs all
+    (at_bit1 full_decrement (λ n k c a. Some (Pair (word_value 0 (formula.bit (nat_lt a (c)))) (word_value k ((2 ^ n + a - (c)) % 2 ^ n)))) full_decrements n (level_of n) (usual_level n w is) (source_of jet.FullDecrement n w) ws) xs all
 
 pub decrement_law : IsFormula jet.Decrement
 decrement_law n w is xs ws all =
     args1 (jet.Number n) (Gives jet.Decrement n w ws)
-      (at1 decrement (λ n k a. Some (Pair (word_value 0 (formula.bit (nat_lt a (1)))) (word_value k ((2 ^ n + a - (1)) % 2 ^ n)))) decrements n (level_of n) (usual_level n w is) (source_of jet.Decrement n w) ws) xs all
+    (at1 decrement (λ n k a. Some (Pair (word_value 0 (formula.bit (nat_lt a (1)))) (word_value k ((2 ^ n + a - (1)) % 2 ^ n)))) decrements n (level_of n) (usual_level n w is) (source_of jet.Decrement n w) ws) xs all
 
 pub negate_law : IsFormula jet.Negate
 negate_law n w is xs ws all =
     args1 (jet.Number n) (Gives jet.Negate n w ws)
-      (at1 negate (λ n k a. Some (Pair (word_value 0 (formula.bit (nat_lt 0 (a)))) (word_value k ((2 ^ n + 0 - (a)) % 2 ^ n)))) negations n (level_of n) (usual_level n w is) (source_of jet.Negate n w) ws) xs all
+    (at1 negate (λ n k a. Some (Pair (word_value 0 (formula.bit (nat_lt 0 (a)))) (word_value k ((2 ^ n + 0 - (a)) % 2 ^ n)))) negations n (level_of n) (usual_level n w is) (source_of jet.Negate n w) ws) xs all

@@ -78,6 +78,7 @@ one_step k w x r d h = by (adds k w x r r)
     last false s g l true e g' l' = record { quotient = false; rest = s; gives = rw g (rw g' refl); law = omega (arith, l, l'); small = omega (arith, l', number_below k e) }
     last true s g l false e g' l' = absurd (let u : bit_number x ≤ 1 = at_most x in omega (arith, l, l', u, number_below k d))
     last true s g l true e g' l' = record { quotient = true; rest = e; gives = rw g (rw g' refl); law = omega (arith, l, l'); small = (let u : bit_number x ≤ 1 = at_most x in omega (arith, l, l', u)) }
+
     by : Adds k w x r r → Divides zero k w x r d
     by s = let t = takes_plain k w s.total d in last s.carry s.total s.gives s.law t.borrow t.rest t.gives t.law
 
@@ -115,8 +116,8 @@ div_mods k w x y hx hy some = by (digits k x hx) (digits k y hy) (zero_word k)
         let q : x / y ≡ number k v.quotient = sym (ap (λ n. n / y) e) ∙ div-mul-add (number k v.quotient) y (number k v.rest) (omega (arith, v.small, b.1)) in
         let r : x % y ≡ number k v.rest = sym (ap (λ n. n % y) e) ∙ mod-mul-add (number k v.quotient) y (number k v.rest) (omega (arith, v.small, b.1)) in
         rw (q, r, tree_word k v.quotient, tree_word k v.rest)
-          (rw (sym (ap (word_value k) a.1) ∙ tree_word k a.0, sym (ap (word_value k) b.1) ∙ tree_word k b.0)
-            (rw (s.gives) (rw yes (rw (z.2) (rw (v.gives) refl)))))
+        (rw (sym (ap (word_value k) a.1) ∙ tree_word k a.0, sym (ap (word_value k) b.1) ∙ tree_word k b.0)
+        (rw (s.gives) (rw yes (rw (z.2) (rw (v.gives) refl)))))
       where
         tested : (r : Bool) → Less 0 (number k b.0) r → bit_value r ≡ Inr UnitValue
         tested true (less h) = refl

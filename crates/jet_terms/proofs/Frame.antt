@@ -1,5 +1,5 @@
 -- From a level to the widths of a jet, from digits to numbers, and over a jet's arguments.
-use Rattle.std.proofs.Common.{◌≡◌, ℕ, ◌^◌, ◌<◌, List, [], ◌∷◌, Bool, true, false, refl, sym, ap, ◌∙◌, subst, Some, ◌⊎◌, inl, inr}
+use Rattle.std.proofs.Common.{◌≡◌, ℕ, ◌^◌, ◌<◌, List, [], ◌∷◌, Bool, true, false, refl, sym, ap, ◌∙◌, subst, ◌⊎◌, inl, inr}
 use Rattle.std.specs.Prelude.{IsTrue, nat_eq, ◌&&◌, ◌||◌}
 use Rattle.std.specs.List.{list_any}
 use Rattle.std.proofs.lemmas.Bool.{eqb-true}
@@ -11,8 +11,6 @@ use Rattle.jets.specs.Jet.{Jet, is_jet, sizes}
 use Rattle.simplicity.specs.Flowed.{flowed}
 use Rattle.jet_terms.specs.Laws.{AreNumbers}
 use Rattle.simplicity.proofs.Flowed.{arrows_erase}
-use Rattle.simplicity.specs.Digits.{Digits, number, tree}
-use Rattle.simplicity.proofs.Digits.{tree_word, digits}
 use Rattle.jets.specs.Jet as jet
 
 -- what holds at each size holds at the sizes of a jet
@@ -29,7 +27,7 @@ pub sized : (P : ℕ → ℕ → Type 0) (ss : List (ℕ × ℕ)) → AllSizes P
 sized P [] all n w h = cc
 sized P (s ∷ ss) all n w h =
     elim (either (nat_eq s.0 n) (nat_eq s.1 w) (list_any (λ s. nat_eq s.0 n && nat_eq s.1 w) ss) h)
-      [ inl e ↦ subst (λ m. P m w) (eqb-true s.0 n e.0) (subst (λ v. P s.0 v) (eqb-true s.1 w e.1) all.0) | inr g ↦ sized P ss all.1 n w g ]
+    [ inl e ↦ subst (λ m. P m w) (eqb-true s.0 n e.0) (subst (λ v. P s.0 v) (eqb-true s.1 w e.1) all.0) | inr g ↦ sized P ss all.1 n w g ]
 
 abbrev pub HasLevel : ℕ → ℕ → Type 0
 HasLevel n w = n ≡ 2 ^ level_of n
@@ -93,7 +91,7 @@ pub at2 : (t : ℕ → Term) (F : ℕ → ℕ → ℕ → ℕ → Answer)
     → meaning (erased (flowed (t k) source)) ws (Pair (word_value k a) (word_value k b)) ≡ F n k a b
 at2 t F law n k e source ws a b f g =
     with_arrows (t k) source ws (Pair (word_value k a) (word_value k b)) (F n k a b)
-      (law k ws a b (subst (λ m. a < 2 ^ m) e f) (subst (λ m. b < 2 ^ m) e g) ∙ ap (λ m. F m k a b) (sym e))
+    (law k ws a b (subst (λ m. a < 2 ^ m) e f) (subst (λ m. b < 2 ^ m) e g) ∙ ap (λ m. F m k a b) (sym e))
 
 pub at3 : (t : ℕ → Term) (F : ℕ → ℕ → ℕ → ℕ → ℕ → Answer)
     → ((k : ℕ) (ws : List Value) (a b c : ℕ) → a < word_count k → b < word_count k → c < word_count k → meaning (t k) ws (Pair (word_value k a) (Pair (word_value k b) (word_value k c))) ≡ F (2 ^ k) k a b c)
@@ -101,7 +99,7 @@ pub at3 : (t : ℕ → Term) (F : ℕ → ℕ → ℕ → ℕ → ℕ → Answer
     → meaning (erased (flowed (t k) source)) ws (Pair (word_value k a) (Pair (word_value k b) (word_value k c))) ≡ F n k a b c
 at3 t F law n k e source ws a b c f g h =
     with_arrows (t k) source ws (Pair (word_value k a) (Pair (word_value k b) (word_value k c))) (F n k a b c)
-      (law k ws a b c (subst (λ m. a < 2 ^ m) e f) (subst (λ m. b < 2 ^ m) e g) (subst (λ m. c < 2 ^ m) e h) ∙ ap (λ m. F m k a b c) (sym e))
+    (law k ws a b c (subst (λ m. a < 2 ^ m) e f) (subst (λ m. b < 2 ^ m) e g) (subst (λ m. c < 2 ^ m) e h) ∙ ap (λ m. F m k a b c) (sym e))
 
 -- with a bit in front
 pub at_bit1 : (t : ℕ → Term) (F : ℕ → ℕ → ℕ → ℕ → Answer)
@@ -110,7 +108,7 @@ pub at_bit1 : (t : ℕ → Term) (F : ℕ → ℕ → ℕ → ℕ → Answer)
     → meaning (erased (flowed (t k) source)) ws (Pair (word_value 0 c) (word_value k a)) ≡ F n k c a
 at_bit1 t F law n k e source ws c a f g =
     with_arrows (t k) source ws (Pair (word_value 0 c) (word_value k a)) (F n k c a)
-      (law k ws c a f (subst (λ m. a < 2 ^ m) e g) ∙ ap (λ m. F m k c a) (sym e))
+    (law k ws c a f (subst (λ m. a < 2 ^ m) e g) ∙ ap (λ m. F m k c a) (sym e))
 
 pub at_bit2 : (t : ℕ → Term) (F : ℕ → ℕ → ℕ → ℕ → ℕ → Answer)
     → ((k : ℕ) (ws : List Value) (c a b : ℕ) → c < word_count 0 → a < word_count k → b < word_count k → meaning (t k) ws (Pair (word_value 0 c) (Pair (word_value k a) (word_value k b))) ≡ F (2 ^ k) k c a b)
@@ -118,4 +116,4 @@ pub at_bit2 : (t : ℕ → Term) (F : ℕ → ℕ → ℕ → ℕ → ℕ → An
     → meaning (erased (flowed (t k) source)) ws (Pair (word_value 0 c) (Pair (word_value k a) (word_value k b))) ≡ F n k c a b
 at_bit2 t F law n k e source ws c a b f g h =
     with_arrows (t k) source ws (Pair (word_value 0 c) (Pair (word_value k a) (word_value k b))) (F n k c a b)
-      (law k ws c a b f (subst (λ m. a < 2 ^ m) e g) (subst (λ m. b < 2 ^ m) e h) ∙ ap (λ m. F m k c a b) (sym e))
+    (law k ws c a b f (subst (λ m. a < 2 ^ m) e g) (subst (λ m. b < 2 ^ m) e h) ∙ ap (λ m. F m k c a b) (sym e))

@@ -177,7 +177,7 @@ all_tests k ws a h =
     let x = word_digits k a h in
     let t = alls k ws x.0 in
     rw (x.2) (same_gives (all_bits k) ws (tree k x.0) (number k x.0) (word_count k - 1) a (word_count k - 1)
-      (record { answer = t.answer; gives = t.gives; law = moved (number k x.0) (word_count k) t.answer (count_pos k) t.law }) x.1 refl)
+    (record { answer = t.answer; gives = t.gives; law = moved (number k x.0) (word_count k) t.answer (count_pos k) t.law }) x.1 refl)
 
 -- whether a word is zero, and one
 zero_by : (k : ℕ) (ws : List Value) (a : Digits k) (r : Bool) → meaning (some_bit k) ws (tree k a) ≡ Some (bit_value r) → Less 0 (number k a) r
@@ -236,74 +236,74 @@ eq_level n w is = sized HasLevel (sizes jet.Eq) (refl, (refl, (refl, (refl, (ref
 pub low_law : IsFormula jet.Low
 low_law n w is xs ws all =
     args0 (Gives jet.Low n w ws)
-      (at0 zeros (λ n k. Some (word_value k (0))) (λ k ws. refl) n (level_of n) (gate_level n w is) (source_of jet.Low n w) ws) xs all
+    (at0 zeros (λ n k. Some (word_value k (0))) (λ k ws. refl) n (level_of n) (gate_level n w is) (source_of jet.Low n w) ws) xs all
 
 pub high_law : IsFormula jet.High
 high_law n w is xs ws all =
     args0 (Gives jet.High n w ws)
-      (at0 ones (λ n k. Some (word_value k (formula.ones n))) (λ k ws. refl) n (level_of n) (gate_level n w is) (source_of jet.High n w) ws) xs all
+    (at0 ones (λ n k. Some (word_value k (formula.ones n))) (λ k ws. refl) n (level_of n) (gate_level n w is) (source_of jet.High n w) ws) xs all
 
 pub complement_law : IsFormula jet.Complement
 complement_law n w is xs ws all =
     args1 (jet.Number n) (Gives jet.Complement n w ws)
-      (at1 complement (λ n k a. Some (word_value k (formula.ones n - a))) complements n (level_of n) (gate_level n w is) (source_of jet.Complement n w) ws) xs all
+    (at1 complement (λ n k a. Some (word_value k (formula.ones n - a))) complements n (level_of n) (gate_level n w is) (source_of jet.Complement n w) ws) xs all
 
 pub and_law : IsFormula jet.And
 and_law n w is xs ws all =
     args2 (jet.Number n) (jet.Number n) (Gives jet.And n w ws)
-      (at2 (lift2 and_1) (λ n k a b. Some (word_value k (bit_and a b))) ands n (level_of n) (gate_level n w is) (source_of jet.And n w) ws) xs all
+    (at2 (lift2 and_1) (λ n k a b. Some (word_value k (bit_and a b))) ands n (level_of n) (gate_level n w is) (source_of jet.And n w) ws) xs all
 
 pub or_law : IsFormula jet.Or
 or_law n w is xs ws all =
     args2 (jet.Number n) (jet.Number n) (Gives jet.Or n w ws)
-      (at2 (lift2 or_1) (λ n k a b. Some (word_value k (bit_or a b))) ors n (level_of n) (gate_level n w is) (source_of jet.Or n w) ws) xs all
+    (at2 (lift2 or_1) (λ n k a b. Some (word_value k (bit_or a b))) ors n (level_of n) (gate_level n w is) (source_of jet.Or n w) ws) xs all
 
 pub xor_law : IsFormula jet.Xor
 xor_law n w is xs ws all =
     args2 (jet.Number n) (jet.Number n) (Gives jet.Xor n w ws)
-      (at2 (lift2 xor_1) (λ n k a b. Some (word_value k (bit_xor a b))) xors n (level_of n) (gate_level n w is) (source_of jet.Xor n w) ws) xs all
+    (at2 (lift2 xor_1) (λ n k a b. Some (word_value k (bit_xor a b))) xors n (level_of n) (gate_level n w is) (source_of jet.Xor n w) ws) xs all
 
 pub maj_law : IsFormula jet.Maj
 maj_law n w is xs ws all =
     args3 (jet.Number n) (jet.Number n) (jet.Number n) (Gives jet.Maj n w ws)
-      (at3 (lift3 maj_1) (λ n k a b c. Some (word_value k (bit_or (bit_or (bit_and a b) (bit_and a c)) (bit_and b c)))) majs n (level_of n) (gate_level n w is) (source_of jet.Maj n w) ws) xs all
+    (at3 (lift3 maj_1) (λ n k a b c. Some (word_value k (bit_or (bit_or (bit_and a b) (bit_and a c)) (bit_and b c)))) majs n (level_of n) (gate_level n w is) (source_of jet.Maj n w) ws) xs all
 
 pub xor_xor_law : IsFormula jet.XorXor
 xor_xor_law n w is xs ws all =
     args3 (jet.Number n) (jet.Number n) (jet.Number n) (Gives jet.XorXor n w ws)
-      (at3 (lift3 xor_xor_1) (λ n k a b c. Some (word_value k (bit_xor (bit_xor a b) c))) xor_xors n (level_of n) (gate_level n w is) (source_of jet.XorXor n w) ws) xs all
+    (at3 (lift3 xor_xor_1) (λ n k a b c. Some (word_value k (bit_xor (bit_xor a b) c))) xor_xors n (level_of n) (gate_level n w is) (source_of jet.XorXor n w) ws) xs all
 
 pub ch_law : IsFormula jet.Ch
 ch_law n w is xs ws all =
     args3 (jet.Number n) (jet.Number n) (jet.Number n) (Gives jet.Ch n w ws)
-      (at3 (lift3 ch_1) (λ n k a b c. Some (word_value k (bit_or (bit_and a b) (bit_and (formula.ones n - a) c)))) chs n (level_of n) (gate_level n w is) (source_of jet.Ch n w) ws) xs all
+    (at3 (lift3 ch_1) (λ n k a b c. Some (word_value k (bit_or (bit_and a b) (bit_and (formula.ones n - a) c)))) chs n (level_of n) (gate_level n w is) (source_of jet.Ch n w) ws) xs all
 
 pub some_law : IsFormula jet.Some
 some_law n w is xs ws all =
     args1 (jet.Number n) (Gives jet.Some n w ws)
-      (at1 some_bit (λ n k a. Some (word_value 0 (formula.bit (nat_lt 0 a)))) some_tests n (level_of n) (gate_level n w is) (source_of jet.Some n w) ws) xs all
+    (at1 some_bit (λ n k a. Some (word_value 0 (formula.bit (nat_lt 0 a)))) some_tests n (level_of n) (gate_level n w is) (source_of jet.Some n w) ws) xs all
 
 pub all_law : IsFormula jet.All
 all_law n w is xs ws all =
     args1 (jet.Number n) (Gives jet.All n w ws)
-      (at1 all_bits (λ n k a. Some (word_value 0 (formula.bit (nat_eq a (formula.ones n))))) all_tests n (level_of n) (usual_level n w is) (source_of jet.All n w) ws) xs all
+    (at1 all_bits (λ n k a. Some (word_value 0 (formula.bit (nat_eq a (formula.ones n))))) all_tests n (level_of n) (usual_level n w is) (source_of jet.All n w) ws) xs all
 
 pub is_zero_law : IsFormula jet.IsZero
 is_zero_law n w is xs ws all =
     args1 (jet.Number n) (Gives jet.IsZero n w ws)
-      (at1 is_zero (λ n k a. Some (word_value 0 (formula.bit (nat_eq a 0)))) zero_tests n (level_of n) (usual_level n w is) (source_of jet.IsZero n w) ws) xs all
+    (at1 is_zero (λ n k a. Some (word_value 0 (formula.bit (nat_eq a 0)))) zero_tests n (level_of n) (usual_level n w is) (source_of jet.IsZero n w) ws) xs all
 
 pub is_one_law : IsFormula jet.IsOne
 is_one_law n w is xs ws all =
     args1 (jet.Number n) (Gives jet.IsOne n w ws)
-      (at1 is_one (λ n k a. Some (word_value 0 (formula.bit (nat_eq a 1)))) one_tests n (level_of n) (usual_level n w is) (source_of jet.IsOne n w) ws) xs all
+    (at1 is_one (λ n k a. Some (word_value 0 (formula.bit (nat_eq a 1)))) one_tests n (level_of n) (usual_level n w is) (source_of jet.IsOne n w) ws) xs all
 
 pub eq_law : IsFormula jet.Eq
 eq_law n w is xs ws all =
     args2 (jet.Number n) (jet.Number n) (Gives jet.Eq n w ws)
-      (at2 eq (λ n k a b. Some (word_value 0 (formula.bit (nat_eq a b)))) eq_tests n (level_of n) (eq_level n w is) (source_of jet.Eq n w) ws) xs all
+    (at2 eq (λ n k a b. Some (word_value 0 (formula.bit (nat_eq a b)))) eq_tests n (level_of n) (eq_level n w is) (source_of jet.Eq n w) ws) xs all
 
 pub verify_law : IsFormula jet.Verify
 verify_law n w is xs ws all =
     args1 jet.Truth (Gives jet.Verify n w ws)
-      (λ a h. with_arrows (verify fail_root) (source_of jet.Verify n w) ws (word_value 0 a) (option_map (λ ys. tuple_value (values_of [] ys)) (numbers jet.Verify 1 1 (a ∷ []))) (verified ws a h)) xs all
+    (λ a h. with_arrows (verify fail_root) (source_of jet.Verify n w) ws (word_value 0 a) (option_map (λ ys. tuple_value (values_of [] ys)) (numbers jet.Verify 1 1 (a ∷ []))) (verified ws a h)) xs all

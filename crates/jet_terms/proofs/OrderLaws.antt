@@ -82,29 +82,29 @@ pub median_words : (k : ℕ) (ws : List Value) (a b c : ℕ) → a < word_count 
     → meaning (median k) ws (Pair (word_value k a) (Pair (word_value k b) (word_value k c))) ≡ Some (word_value k (max (min a b) (min (max a b) c)))
 median_words k ws a b c h i j =
     median_of (least k) (greatest k) ws (word_value k a) (word_value k b) (word_value k c) (word_value k (min a b)) (word_value k (max a b)) (word_value k (min (max a b) c)) (word_value k (max (min a b) (min (max a b) c)))
-      (min_words k ws a b h i) (max_words k ws a b h i) (min_words k ws (max a b) c (omega (arith, h, i)) j) (max_words k ws (min a b) (min (max a b) c) (omega (arith, h, i)) (omega (arith, h, i, j)))
+    (min_words k ws a b h i) (max_words k ws a b h i) (min_words k ws (max a b) c (omega (arith, h, i)) j) (max_words k ws (min a b) (min (max a b) c) (omega (arith, h, i)) (omega (arith, h, i, j)))
 
 pub lt_law : IsFormula jet.Lt
 lt_law n w is xs ws all =
     args2 (jet.Number n) (jet.Number n) (Gives jet.Lt n w ws)
-      (at2 lt (λ n k a b. Some (word_value 0 (formula.bit (nat_lt a b)))) lt_tests n (level_of n) (usual_level n w is) (source_of jet.Lt n w) ws) xs all
+    (at2 lt (λ n k a b. Some (word_value 0 (formula.bit (nat_lt a b)))) lt_tests n (level_of n) (usual_level n w is) (source_of jet.Lt n w) ws) xs all
 
 pub le_law : IsFormula jet.Le
 le_law n w is xs ws all =
     args2 (jet.Number n) (jet.Number n) (Gives jet.Le n w ws)
-      (at2 le (λ n k a b. Some (word_value 0 (formula.bit (nat_le a b)))) le_tests n (level_of n) (usual_level n w is) (source_of jet.Le n w) ws) xs all
+    (at2 le (λ n k a b. Some (word_value 0 (formula.bit (nat_le a b)))) le_tests n (level_of n) (usual_level n w is) (source_of jet.Le n w) ws) xs all
 
 pub min_law : IsFormula jet.Min
 min_law n w is xs ws all =
     args2 (jet.Number n) (jet.Number n) (Gives jet.Min n w ws)
-      (at2 least (λ n k a b. Some (word_value k (min a b))) min_words n (level_of n) (usual_level n w is) (source_of jet.Min n w) ws) xs all
+    (at2 least (λ n k a b. Some (word_value k (min a b))) min_words n (level_of n) (usual_level n w is) (source_of jet.Min n w) ws) xs all
 
 pub max_law : IsFormula jet.Max
 max_law n w is xs ws all =
     args2 (jet.Number n) (jet.Number n) (Gives jet.Max n w ws)
-      (at2 greatest (λ n k a b. Some (word_value k (max a b))) max_words n (level_of n) (usual_level n w is) (source_of jet.Max n w) ws) xs all
+    (at2 greatest (λ n k a b. Some (word_value k (max a b))) max_words n (level_of n) (usual_level n w is) (source_of jet.Max n w) ws) xs all
 
 pub median_law : IsFormula jet.Median
 median_law n w is xs ws all =
     args3 (jet.Number n) (jet.Number n) (jet.Number n) (Gives jet.Median n w ws)
-      (at3 median (λ n k a b c. Some (word_value k (max (min a b) (min (max a b) c)))) median_words n (level_of n) (usual_level n w is) (source_of jet.Median n w) ws) xs all
+    (at3 median (λ n k a b c. Some (word_value k (max (min a b) (min (max a b) c)))) median_words n (level_of n) (usual_level n w is) (source_of jet.Median n w) ws) xs all

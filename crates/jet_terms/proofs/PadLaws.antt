@@ -43,30 +43,30 @@ left_lows k zero ws a h = refl
 left_lows k (suc d) ws a h =
     let s = base_below k d in
     ap (λ m. meaning (PairTerm (zeros m) (left_pad zeros k d)) ws (word_value k a)) (up_is k d)
-      ∙ filled_left k d 0 (left_pad zeros k d) ws (word_value k a) a a (left_lows k d ws a h) (omega (arith, s, h)) (omega arith)
+    ∙ filled_left k d 0 (left_pad zeros k d) ws (word_value k a) a a (left_lows k d ws a h) (omega (arith, s, h)) (omega arith)
 
 pub left_highs : (k d : ℕ) (ws : List Value) (a : ℕ) → a < word_count k → meaning (left_pad ones k d) ws (word_value k a) ≡ Some (word_value (up k d) (a + word_count (up k d) - word_count k))
 left_highs k zero ws a h = ap (λ x. Some (word_value k x)) (let e : a ≡ a + word_count k - word_count k = omega arith in e)
 left_highs k (suc d) ws a h =
     let s = base_below k d in
     ap (λ m. meaning (PairTerm (ones m) (left_pad ones k d)) ws (word_value k a)) (up_is k d)
-      ∙ filled_left k d (word_count (up k d) - 1) (left_pad ones k d) ws (word_value k a) (a + word_count (up k d) - word_count k) (a + word_count (suc (up k d)) - word_count k) (left_highs k d ws a h) (omega (arith, s, h))
-          (left_ones_step a (word_count (up k d)) (word_count k) s (count_pos (up k d)) ∙ ap (λ m. a + m - word_count k) (sym (count_square (up k d))))
+    ∙ filled_left k d (word_count (up k d) - 1) (left_pad ones k d) ws (word_value k a) (a + word_count (up k d) - word_count k) (a + word_count (suc (up k d)) - word_count k) (left_highs k d ws a h) (omega (arith, s, h))
+    (left_ones_step a (word_count (up k d)) (word_count k) s (count_pos (up k d)) ∙ ap (λ m. a + m - word_count k) (sym (count_square (up k d))))
 
 pub right_lows : (k d : ℕ) (ws : List Value) (a : ℕ) → a < word_count k → meaning (right_pad zeros k d) ws (word_value k a) ≡ Some (word_value (up k d) (a * gap k d))
 right_lows k zero ws a h = rw (gap_zero k) (ap (λ x. Some (word_value k x)) (let e : a ≡ a * 1 = omega arith in e))
 right_lows k (suc d) ws a h =
     ap (λ m. meaning (PairTerm (right_pad zeros k d) (zeros m)) ws (word_value k a)) (up_is k d)
-      ∙ filled_right k d 0 (right_pad zeros k d) ws (word_value k a) (a * gap k d) (a * gap k (suc d)) (right_lows k d ws a h) (count_pos (up k d))
-          (let e : a * gap k d * word_count (up k d) + 0 ≡ a * (gap k d * word_count (up k d)) = omega arith in e ∙ ap (λ m. a * m) (sym (gap_suc k d)))
+    ∙ filled_right k d 0 (right_pad zeros k d) ws (word_value k a) (a * gap k d) (a * gap k (suc d)) (right_lows k d ws a h) (count_pos (up k d))
+    (let e : a * gap k d * word_count (up k d) + 0 ≡ a * (gap k d * word_count (up k d)) = omega arith in e ∙ ap (λ m. a * m) (sym (gap_suc k d)))
 
 pub right_highs : (k d : ℕ) (ws : List Value) (a : ℕ) → a < word_count k → meaning (right_pad ones k d) ws (word_value k a) ≡ Some (word_value (up k d) (a * gap k d + (gap k d - 1)))
 right_highs k zero ws a h = rw (gap_zero k) (ap (λ x. Some (word_value k x)) (let e : a ≡ a * 1 + (1 - 1) = omega arith in e))
 right_highs k (suc d) ws a h =
     let s = count_pos (up k d) in
     ap (λ m. meaning (PairTerm (right_pad ones k d) (ones m)) ws (word_value k a)) (up_is k d)
-      ∙ filled_right k d (word_count (up k d) - 1) (right_pad ones k d) ws (word_value k a) (a * gap k d + (gap k d - 1)) (a * gap k (suc d) + (gap k (suc d) - 1)) (right_highs k d ws a h) (omega (arith, s))
-          (right_ones_step a (gap k d) (word_count (up k d)) (gap_pos k d) s ∙ ap (λ m. a * m + (m - 1)) (sym (gap_suc k d)))
+    ∙ filled_right k d (word_count (up k d) - 1) (right_pad ones k d) ws (word_value k a) (a * gap k d + (gap k d - 1)) (a * gap k (suc d) + (gap k (suc d) - 1)) (right_highs k d ws a h) (omega (arith, s))
+    (right_ones_step a (gap k d) (word_count (up k d)) (gap_pos k d) s ∙ ap (λ m. a * m + (m - 1)) (sym (gap_suc k d)))
 
 -- by a bit
 pub on_false : (b l r : Term) (ws : List Value) (v : Value) (u : Answer) → meaning b ws v ≡ Some (Inl UnitValue) → meaning l ws v ≡ u → meaning (cond b l r) ws v ≡ u
@@ -93,14 +93,15 @@ left_extends k d ws a h = elim (cases_lt a (2 ^ (2 ^ k - 1))) [ inl p ↦ low p 
         let e : a ≡ 0 * 2 ^ (2 ^ k - 1) + a = omega arith in
         let q = ap (λ x. x / 2 ^ (2 ^ k - 1)) e ∙ div-mul-add 0 (2 ^ (2 ^ k - 1)) a p in
         rw (lt-ltb a (2 ^ (2 ^ k - 1)) p)
-          (on_false (leftmost k) (left_pad zeros k d) (left_pad ones k d) ws (word_value k a) (Some (word_value (up k d) a)) (first_bit k ws a ∙ ap (λ x. Some (word_value 0 x)) q) (left_lows k d ws a h))
+        (on_false (leftmost k) (left_pad zeros k d) (left_pad ones k d) ws (word_value k a) (Some (word_value (up k d) a)) (first_bit k ws a ∙ ap (λ x. Some (word_value 0 x)) q) (left_lows k d ws a h))
+
     high : 2 ^ (2 ^ k - 1) ≤ a → meaning (left_extend k d) ws (word_value k a) ≡ Some (word_value (up k d) (if nat_lt a (2 ^ (2 ^ k - 1)) then a else (a + word_count (up k d) - word_count k)))
     high p =
         let b = half_base k in
         let e : a ≡ 1 * 2 ^ (2 ^ k - 1) + (a - 2 ^ (2 ^ k - 1)) = omega (arith, p) in
         let q = ap (λ x. x / 2 ^ (2 ^ k - 1)) e ∙ div-mul-add 1 (2 ^ (2 ^ k - 1)) (a - 2 ^ (2 ^ k - 1)) (omega (arith, b, h, p)) in
         rw (le-ltb a (2 ^ (2 ^ k - 1)) p)
-          (on_true (leftmost k) (left_pad zeros k d) (left_pad ones k d) ws (word_value k a) (Some (word_value (up k d) (a + word_count (up k d) - word_count k))) (first_bit k ws a ∙ ap (λ x. Some (word_value 0 x)) q) (left_highs k d ws a h))
+        (on_true (leftmost k) (left_pad zeros k d) (left_pad ones k d) ws (word_value k a) (Some (word_value (up k d) (a + word_count (up k d) - word_count k))) (first_bit k ws a ∙ ap (λ x. Some (word_value 0 x)) q) (left_highs k d ws a h))
 
 pub right_extends : (k d : ℕ) (ws : List Value) (a : ℕ) → a < word_count k
     → meaning (right_extend k d) ws (word_value k a) ≡ Some (word_value (up k d) (if nat_eq (a % 2) 0 then (a * gap k d) else (a * gap k d + (gap k d - 1))))
@@ -109,12 +110,13 @@ right_extends k d ws a h = elim (cases_eq (a % 2) 0) [ inl p ↦ low p | inr p �
     low : a % 2 ≡ 0 → meaning (right_extend k d) ws (word_value k a) ≡ Some (word_value (up k d) (if nat_eq (a % 2) 0 then (a * gap k d) else (a * gap k d + (gap k d - 1))))
     low p =
         rw (eq-eqb (a % 2) 0 p)
-          (on_false (rightmost k) (right_pad zeros k d) (right_pad ones k d) ws (word_value k a) (Some (word_value (up k d) (a * gap k d))) (last_bit k ws a h ∙ ap (λ x. Some (word_value 0 x)) p) (right_lows k d ws a h))
+        (on_false (rightmost k) (right_pad zeros k d) (right_pad ones k d) ws (word_value k a) (Some (word_value (up k d) (a * gap k d))) (last_bit k ws a h ∙ ap (λ x. Some (word_value 0 x)) p) (right_lows k d ws a h))
+
     high : (a % 2 ≡ 0 → ⊥) → meaning (right_extend k d) ws (word_value k a) ≡ Some (word_value (up k d) (if nat_eq (a % 2) 0 then (a * gap k d) else (a * gap k d + (gap k d - 1))))
     high p =
         let q : a % 2 ≡ 1 = omega (arith, p) in
         rw (ne_eqb (a % 2) 0 p)
-          (on_true (rightmost k) (right_pad zeros k d) (right_pad ones k d) ws (word_value k a) (Some (word_value (up k d) (a * gap k d + (gap k d - 1)))) (last_bit k ws a h ∙ ap (λ x. Some (word_value 0 x)) q) (right_highs k d ws a h))
+        (on_true (rightmost k) (right_pad zeros k d) (right_pad ones k d) ws (word_value k a) (Some (word_value (up k d) (a * gap k d + (gap k d - 1)))) (last_bit k ws a h ∙ ap (λ x. Some (word_value 0 x)) q) (right_highs k d ws a h))
 
 pub widened_spread : (n w : ℕ) → IsTrue (is_jet jet.LeftPadLow n w) → Spread n w
 widened_spread n w is = sized Spread (sizes jet.LeftPadLow) ((refl, refl, refl), ((refl, refl, refl), ((refl, refl, refl), ((refl, refl, refl), ((refl, refl, refl), ((refl, refl, refl), ((refl, refl, refl), ((refl, refl, refl), ((refl, refl, refl), ((refl, refl, refl), tt)))))))))) n w is

@@ -71,8 +71,8 @@ pub narrow : (t : ℕ → Term) (F : ℕ → ℕ → ℕ → ℕ → Answer)
     → meaning (erased (flowed (t d) source)) ws (word_value l a) ≡ F n w k a
 narrow t F law n w k l d e f g source ws a h =
     with_arrows (t d) source ws (word_value l a) (F n w k a)
-      (subst (λ m. meaning (t d) ws (word_value m a) ≡ F (2 ^ k) (2 ^ m) k a) (sym g) (law k d ws a (subst (λ m. a < 2 ^ m) (f ∙ ap (λ m. 2 ^ m) g) h))
-        ∙ ap (λ m. F m (2 ^ l) k a) (sym e) ∙ ap (λ m. F n m k a) (sym f))
+    (subst (λ m. meaning (t d) ws (word_value m a) ≡ F (2 ^ k) (2 ^ m) k a) (sym g) (law k d ws a (subst (λ m. a < 2 ^ m) (f ∙ ap (λ m. 2 ^ m) g) h))
+    ∙ ap (λ m. F m (2 ^ l) k a) (sym e) ∙ ap (λ m. F n m k a) (sym f))
 
 pub widen : (t : ℕ → ℕ → Term) (F : ℕ → ℕ → ℕ → ℕ → Answer)
     → ((k d : ℕ) (ws : List Value) (a : ℕ) → a < word_count k → meaning (t k d) ws (word_value k a) ≡ F (2 ^ k) (2 ^ up k d) (up k d) a)
@@ -80,8 +80,8 @@ pub widen : (t : ℕ → ℕ → Term) (F : ℕ → ℕ → ℕ → ℕ → Answ
     → meaning (erased (flowed (t k d) source)) ws (word_value k a) ≡ F n w l a
 widen t F law n w k l d e f g source ws a h =
     with_arrows (t k d) source ws (word_value k a) (F n w l a)
-      (subst (λ m. meaning (t k d) ws (word_value k a) ≡ F (2 ^ k) (2 ^ m) m a) (sym g) (law k d ws a (subst (λ m. a < 2 ^ m) e h))
-        ∙ ap (λ m. F m (2 ^ l) l a) (sym e) ∙ ap (λ m. F n m l a) (sym f))
+    (subst (λ m. meaning (t k d) ws (word_value k a) ≡ F (2 ^ k) (2 ^ m) m a) (sym g) (law k d ws a (subst (λ m. a < 2 ^ m) e h))
+    ∙ ap (λ m. F m (2 ^ l) l a) (sym e) ∙ ap (λ m. F n m l a) (sym f))
 
 mod_mod : (a i j : ℕ) → a % 2 ^ (i + j) % 2 ^ j ≡ a % 2 ^ j
 mod_mod a i j = ap (λ x. x % 2 ^ j) (mod-pow-add a i j) ∙ mod-mul-add (a / 2 ^ j % 2 ^ i) (2 ^ j) (a % 2 ^ j) (mod_below a (2 ^ j) (pow_pos j))
@@ -101,7 +101,7 @@ rightmosts k (suc d) ws a h =
     let p = below_up k d in
     let e : 2 ^ up k d ≡ (2 ^ up k d - 2 ^ k) + 2 ^ k = omega (arith, p) in
     rightmosts k d ws (a % word_count (up k d)) (mod_below a (word_count (up k d)) (count_pos (up k d)))
-      ∙ ap (λ x. Some (word_value k x)) (ap (λ m. a % 2 ^ m % word_count k) e ∙ mod_mod a (2 ^ up k d - 2 ^ k) (2 ^ k))
+    ∙ ap (λ x. Some (word_value k x)) (ap (λ m. a % 2 ^ m % word_count k) e ∙ mod_mod a (2 ^ up k d - 2 ^ k) (2 ^ k))
 
 pub narrowed_spread : (n w : ℕ) → IsTrue (is_jet jet.Leftmost n w) → Spread n w
 narrowed_spread n w is = sized Spread (sizes jet.Leftmost) ((refl, refl, refl), ((refl, refl, refl), ((refl, refl, refl), ((refl, refl, refl), ((refl, refl, refl), ((refl, refl, refl), ((refl, refl, refl), ((refl, refl, refl), ((refl, refl, refl), ((refl, refl, refl), ((refl, refl, refl), ((refl, refl, refl), ((refl, refl, refl), ((refl, refl, refl), ((refl, refl, refl), ((refl, refl, refl), ((refl, refl, refl), ((refl, refl, refl), tt)))))))))))))))))) n w is

@@ -33,12 +33,12 @@ doubled n w is = sized (λ m v. level_of (2 * m) ≡ suc (level_of m)) (sizes je
 
 at4 : (t : ℕ → Term) (F : ℕ → ℕ → ℕ → ℕ → ℕ → Answer)
     → ((k : ℕ) (ws : List Value) (a b c d : ℕ) → a < word_count k → b < word_count k → c < word_count k → d < word_count k
-        → meaning (t k) ws (Pair (Pair (word_value k a) (word_value k b)) (Pair (word_value k c) (word_value k d))) ≡ F (suc k) a b c d)
+    → meaning (t k) ws (Pair (Pair (word_value k a) (word_value k b)) (Pair (word_value k c) (word_value k d))) ≡ F (suc k) a b c d)
     → (n k l : ℕ) → n ≡ 2 ^ k → l ≡ suc k → (source : Kind) (ws : List Value) (a b c d : ℕ) → a < 2 ^ n → b < 2 ^ n → c < 2 ^ n → d < 2 ^ n
     → meaning (erased (flowed (t k) source)) ws (Pair (Pair (word_value k a) (word_value k b)) (Pair (word_value k c) (word_value k d))) ≡ F l a b c d
 at4 t F law n k l e f source ws a b c d g h i j =
     with_arrows (t k) source ws (Pair (Pair (word_value k a) (word_value k b)) (Pair (word_value k c) (word_value k d))) (F l a b c d)
-      (law k ws a b c d (subst (λ m. a < 2 ^ m) e g) (subst (λ m. b < 2 ^ m) e h) (subst (λ m. c < 2 ^ m) e i) (subst (λ m. d < 2 ^ m) e j) ∙ ap (λ m. F m a b c d) (sym f))
+    (law k ws a b c d (subst (λ m. a < 2 ^ m) e g) (subst (λ m. b < 2 ^ m) e h) (subst (λ m. c < 2 ^ m) e i) (subst (λ m. d < 2 ^ m) e j) ∙ ap (λ m. F m a b c d) (sym f))
 
 at2_doubled : (t : ℕ → Term) (F : ℕ → ℕ → ℕ → Answer)
     → ((k : ℕ) (ws : List Value) (a b : ℕ) → a < word_count k → b < word_count k → meaning (t k) ws (Pair (word_value k a) (word_value k b)) ≡ F (suc k) a b)
@@ -46,14 +46,14 @@ at2_doubled : (t : ℕ → Term) (F : ℕ → ℕ → ℕ → Answer)
     → meaning (erased (flowed (t k) source)) ws (Pair (word_value k a) (word_value k b)) ≡ F l a b
 at2_doubled t F law n k l e f source ws a b g h =
     with_arrows (t k) source ws (Pair (word_value k a) (word_value k b)) (F l a b)
-      (law k ws a b (subst (λ m. a < 2 ^ m) e g) (subst (λ m. b < 2 ^ m) e h) ∙ ap (λ m. F m a b) (sym f))
+    (law k ws a b (subst (λ m. a < 2 ^ m) e g) (subst (λ m. b < 2 ^ m) e h) ∙ ap (λ m. F m a b) (sym f))
 
 pub full_multiply_law : IsFormula jet.FullMultiply
 full_multiply_law n w is xs ws all =
     args4 (jet.Number n) (jet.Number n) (jet.Number n) (jet.Number n) (Gives jet.FullMultiply n w ws)
-      (at4 full_multiply (λ l a b c d. Some (word_value l (a * b + c + d))) full_products n (level_of n) (level_of (2 * n)) (usual_level n w is) (doubled n w is) (source_of jet.FullMultiply n w) ws) xs all
+    (at4 full_multiply (λ l a b c d. Some (word_value l (a * b + c + d))) full_products n (level_of n) (level_of (2 * n)) (usual_level n w is) (doubled n w is) (source_of jet.FullMultiply n w) ws) xs all
 
 pub multiply_law : IsFormula jet.Multiply
 multiply_law n w is xs ws all =
     args2 (jet.Number n) (jet.Number n) (Gives jet.Multiply n w ws)
-      (at2_doubled multiply (λ l a b. Some (word_value l (a * b))) plain_products n (level_of n) (level_of (2 * n)) (usual_level n w is) (doubled n w is) (source_of jet.Multiply n w) ws) xs all
+    (at2_doubled multiply (λ l a b. Some (word_value l (a * b))) plain_products n (level_of n) (level_of (2 * n)) (usual_level n w is) (doubled n w is) (source_of jet.Multiply n w) ws) xs all

@@ -56,24 +56,24 @@ swapped s t ws a b u r e f = rw e f
 pub divide_tests : (k : ℕ) (ws : List Value) (a b : ℕ) → a < word_count k → b < word_count k → meaning (divides k) ws (Pair (word_value k a) (word_value k b)) ≡ Some (word_value 0 (formula.bit (nat_eq (formula.rest b a) 0)))
 divide_tests k ws a b f g =
     swapped (modulo k) (is_zero k) ws (word_value k a) (word_value k b) (word_value k (formula.rest b a)) (Some (word_value 0 (formula.bit (nat_eq (formula.rest b a) 0))))
-      (rests k ws b a g f) (zero_tests k ws (formula.rest b a) (rest_below (word_count k) b a g f))
+    (rests k ws b a g f) (zero_tests k ws (formula.rest b a) (rest_below (word_count k) b a g f))
 
 pub div_mod_law : IsFormula jet.DivMod
 div_mod_law n w is xs ws all =
     args2 (jet.Number n) (jet.Number n) (Gives jet.DivMod n w ws)
-      (at2 div_mod (λ n k a b. Some (Pair (word_value k (formula.quotient a b)) (word_value k (formula.rest a b)))) quotients n (level_of n) (usual_level n w is) (source_of jet.DivMod n w) ws) xs all
+    (at2 div_mod (λ n k a b. Some (Pair (word_value k (formula.quotient a b)) (word_value k (formula.rest a b)))) quotients n (level_of n) (usual_level n w is) (source_of jet.DivMod n w) ws) xs all
 
 pub divide_law : IsFormula jet.Divide
 divide_law n w is xs ws all =
     args2 (jet.Number n) (jet.Number n) (Gives jet.Divide n w ws)
-      (at2 divide (λ n k a b. Some (word_value k (formula.quotient a b))) divisions n (level_of n) (usual_level n w is) (source_of jet.Divide n w) ws) xs all
+    (at2 divide (λ n k a b. Some (word_value k (formula.quotient a b))) divisions n (level_of n) (usual_level n w is) (source_of jet.Divide n w) ws) xs all
 
 pub modulo_law : IsFormula jet.Modulo
 modulo_law n w is xs ws all =
     args2 (jet.Number n) (jet.Number n) (Gives jet.Modulo n w ws)
-      (at2 modulo (λ n k a b. Some (word_value k (formula.rest a b))) rests n (level_of n) (usual_level n w is) (source_of jet.Modulo n w) ws) xs all
+    (at2 modulo (λ n k a b. Some (word_value k (formula.rest a b))) rests n (level_of n) (usual_level n w is) (source_of jet.Modulo n w) ws) xs all
 
 pub divides_law : IsFormula jet.Divides
 divides_law n w is xs ws all =
     args2 (jet.Number n) (jet.Number n) (Gives jet.Divides n w ws)
-      (at2 divides (λ n k a b. Some (word_value 0 (formula.bit (nat_eq (formula.rest b a) 0)))) divide_tests n (level_of n) (usual_level n w is) (source_of jet.Divides n w) ws) xs all
+    (at2 divides (λ n k a b. Some (word_value 0 (formula.bit (nat_eq (formula.rest b a) 0)))) divide_tests n (level_of n) (usual_level n w is) (source_of jet.Divides n w) ws) xs all

@@ -194,4 +194,3 @@ row_62 = refl
 
 row_63 : Gives jet.RightExtend 1 8 [] (0 ∷ [])
 row_63 = refl
-

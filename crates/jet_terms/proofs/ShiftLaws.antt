@@ -34,16 +34,18 @@ factor_is (suc k) s = factor_by s.0 (word_count k) (factor k s.1) (amount k s.1)
 -- the word_count over it: what is left of a power
 cancelled : (P Q R B : ℕ) → 0 < P → P * Q ≡ B → P * R ≡ B → Q ≡ R
 cancelled P Q R B h e f = elim (cases_order Q R) [
-    inl same ↦ same
+  | inl same ↦ same
   | inr differ ↦ elim differ [
-      inl below ↦ absurd (let m = mul-le P (suc Q) P R (omega arith) (omega (arith, below)) in omega (arith, m, e, f, h))
-    | inr above ↦ absurd (let m = mul-le P (suc R) P Q (omega arith) (omega (arith, above)) in omega (arith, m, e, f, h)) ] ]
+    | inl below ↦ absurd (let m = mul-le P (suc Q) P R (omega arith) (omega (arith, below)) in omega (arith, m, e, f, h))
+    | inr above ↦ absurd (let m = mul-le P (suc R) P Q (omega arith) (omega (arith, above)) in omega (arith, m, e, f, h))
+  ]
+]
 
 cofactor_is : (k : ℕ) (s : Amount k) → amount k s < 2 ^ k → cofactor k s ≡ 2 ^ (2 ^ k - amount k s)
 cofactor_is k s h =
     let e : 2 ^ k ≡ amount k s + (2 ^ k - amount k s) = omega (arith, h) in
     cancelled (factor k s) (cofactor k s) (2 ^ (2 ^ k - amount k s)) (word_count k) (subst (λ n. 0 < n) (sym (factor_is k s)) (pow_pos (amount k s))) (whole k s)
-      (ap (λ n. n * 2 ^ (2 ^ k - amount k s)) (factor_is k s) ∙ sym (pow-add 2 (amount k s) (2 ^ k - amount k s)) ∙ sym (ap (λ n. 2 ^ n) e))
+    (ap (λ n. n * 2 ^ (2 ^ k - amount k s)) (factor_is k s) ∙ sym (pow-add 2 (amount k s) (2 ^ k - amount k s)) ∙ sym (ap (λ n. 2 ^ n) e))
 
 -- shifts of numbers
 left_number : (k : ℕ) (ws : List Value) (s : Amount k) (x : Value) (h l t : ℕ) → amount k s ≡ t → amount k s < 2 ^ k → h < word_count k → l < word_count k → x ≡ amount_tree k s
@@ -79,8 +81,8 @@ left_rotations j k fits ws s a h i =
     let y = word_digits j s h in
     let p = split j k ws y.0 fits in
     ap (λ v. meaning (left_rotate j k) ws (Pair v (word_value k a))) (y.2)
-      ∙ rotate_of (bits j k) (shifted_left k) ws (tree j y.0) (word_value k a) (amount_tree k p.low) (Some (word_value k (formula.rotated (2 ^ k) (s % 2 ^ k) a))) p.gives
-          (left_number k ws p.low (amount_tree k p.low) a a (s % 2 ^ k) (rest_of (2 ^ k) p.high (amount k p.low) s (p.sum ∙ y.1) p.small) p.small i i refl)
+    ∙ rotate_of (bits j k) (shifted_left k) ws (tree j y.0) (word_value k a) (amount_tree k p.low) (Some (word_value k (formula.rotated (2 ^ k) (s % 2 ^ k) a))) p.gives
+    (left_number k ws p.low (amount_tree k p.low) a a (s % 2 ^ k) (rest_of (2 ^ k) p.high (amount k p.low) s (p.sum ∙ y.1) p.small) p.small i i refl)
 
 turned_back : (n t : ℕ) → t < n → n - (n - t) ≡ t
 turned_back n t h = omega (arith, h)
@@ -92,9 +94,9 @@ right_rotations j k fits ws s a h i =
     let p = split j k ws y.0 fits in
     let back = turned_back (2 ^ k) (s % 2 ^ k) (mod_below s (2 ^ k) (pow_pos k)) in
     ap (λ v. meaning (right_rotate j k) ws (Pair v (word_value k a))) (y.2)
-      ∙ rotate_of (bits j k) (shifted_right k) ws (tree j y.0) (word_value k a) (amount_tree k p.low) (Some (word_value k (formula.rotated (2 ^ k) (2 ^ k - s % 2 ^ k) a))) p.gives
-          (right_number k ws p.low (amount_tree k p.low) a a (s % 2 ^ k) (rest_of (2 ^ k) p.high (amount k p.low) s (p.sum ∙ y.1) p.small) p.small i i refl
-            ∙ ap (λ t. Some (word_value k (a % 2 ^ t * 2 ^ (2 ^ k - s % 2 ^ k) + a / 2 ^ t))) (sym back))
+    ∙ rotate_of (bits j k) (shifted_right k) ws (tree j y.0) (word_value k a) (amount_tree k p.low) (Some (word_value k (formula.rotated (2 ^ k) (2 ^ k - s % 2 ^ k) a))) p.gives
+    (right_number k ws p.low (amount_tree k p.low) a a (s % 2 ^ k) (rest_of (2 ^ k) p.high (amount k p.low) s (p.sum ∙ y.1) p.small) p.small i i refl
+    ∙ ap (λ t. Some (word_value k (a % 2 ^ t * 2 ^ (2 ^ k - s % 2 ^ k) + a / 2 ^ t))) (sym back))
 
 -- the fill
 fills : (k : ℕ) (ws : List Value) (f : Bool) (x : Value) → meaning (fill k) ws (Pair (bit_value f) x) ≡ Some (word_value k (bit_number f * (word_count k - 1)))
@@ -165,13 +167,13 @@ left_at : (k t : ℕ) (f : Bool) (a : ℕ) → t ≤ 2 ^ k → a % 2 ^ (2 ^ k - 
 left_at k t f a h =
     let b = whole_base k t h in
     ap (λ m. a % 2 ^ (2 ^ k - t) * 2 ^ t + bit_number f * (m - 1) / 2 ^ (2 ^ k - t)) b ∙ left_middle f a (2 ^ t) (2 ^ (2 ^ k - t)) (pow_pos t) (pow_pos (2 ^ k - t))
-      ∙ ap (λ m. (a * 2 ^ t + bit_number f * (2 ^ t - 1)) % m) (sym b)
+    ∙ ap (λ m. (a * 2 ^ t + bit_number f * (2 ^ t - 1)) % m) (sym b)
 
 right_at : (k t : ℕ) (f : Bool) (a : ℕ) → t ≤ 2 ^ k → bit_number f * (word_count k - 1) % 2 ^ t * 2 ^ (2 ^ k - t) + a / 2 ^ t ≡ a / 2 ^ t + bit_number f * (word_count k - 2 ^ (2 ^ k - t))
 right_at k t f a h =
     let b = whole_base k t h in
     ap (λ m. bit_number f * (m - 1) % 2 ^ t * 2 ^ (2 ^ k - t) + a / 2 ^ t) b ∙ right_middle f a (2 ^ t) (2 ^ (2 ^ k - t)) (pow_pos t) (pow_pos (2 ^ k - t))
-      ∙ ap (λ m. a / 2 ^ t + bit_number f * (m - 2 ^ (2 ^ k - t))) (sym b)
+    ∙ ap (λ m. a / 2 ^ t + bit_number f * (m - 2 ^ (2 ^ k - t))) (sym b)
 
 -- all the places
 left_all : (f : Bool) (a b : ℕ) → 0 < b → bit_number f * (b - 1) ≡ (a * b + bit_number f * (b - 1)) % b
@@ -197,17 +199,17 @@ left_shifts_with j k fits ws f s a g h i =
     let p = split j k ws y.0 fits in
     let sum = p.sum ∙ y.1 in
     ap (λ u. meaning (left_shift_with j k) ws (Pair u (Pair (word_value j s) (word_value k a)))) (z.2)
-      ∙ ap (λ v. meaning (left_shift_with j k) ws (Pair (bit_value z.0) (Pair v (word_value k a)))) (y.2)
-      ∙ or_filled k (take (2 ^ j - k) (bit_paths j)) (PairTerm (I (O H) ⨾ bits j k) (PairTerm (I (I H)) (fill k)) ⨾ shifted_left k) ws (bit_value z.0) (tree j y.0) (word_value k a) p.high
-          (Some (word_value k (shifted z.0 (min s (2 ^ k))))) p.over
-          (λ none. let t = least_below p.high (2 ^ k) (amount k p.low) s sum p.small none in
-            left_of_bits (bits j k) (shifted_left k) (fill k) ws (bit_value z.0) (tree j y.0) (word_value k a) (amount_tree k p.low) (word_value k (bit_number z.0 * (word_count k - 1))) (Some (word_value k (shifted z.0 (min s (2 ^ k)))))
-              p.gives (fills k ws z.0 (Pair (tree j y.0) (word_value k a)))
-              (left_number k ws p.low (amount_tree k p.low) a (bit_number z.0 * (word_count k - 1)) (amount k p.low) refl p.small i (fill_below z.0 (word_count k) (count_pos k)) refl
-                ∙ ap (λ n. Some (word_value k n)) (left_at k (amount k p.low) z.0 a (omega (arith, p.small)) ∙ ap (λ m. shifted z.0 m) (sym t))))
-          (λ some. let t = least_above p.high (2 ^ k) (amount k p.low) s sum some in
-            fills k ws z.0 (Pair (tree j y.0) (word_value k a)) ∙ ap (λ n. Some (word_value k n)) (left_all z.0 a (word_count k) (count_pos k) ∙ ap (λ m. shifted z.0 m) (sym t)))
-      ∙ ap (λ b. Some (word_value k ((a * 2 ^ min s (2 ^ k) + b * (2 ^ min s (2 ^ k) - 1)) % word_count k))) (z.1)
+    ∙ ap (λ v. meaning (left_shift_with j k) ws (Pair (bit_value z.0) (Pair v (word_value k a)))) (y.2)
+    ∙ or_filled k (take (2 ^ j - k) (bit_paths j)) (PairTerm (I (O H) ⨾ bits j k) (PairTerm (I (I H)) (fill k)) ⨾ shifted_left k) ws (bit_value z.0) (tree j y.0) (word_value k a) p.high
+    (Some (word_value k (shifted z.0 (min s (2 ^ k))))) p.over
+    (λ none. let t = least_below p.high (2 ^ k) (amount k p.low) s sum p.small none in
+    left_of_bits (bits j k) (shifted_left k) (fill k) ws (bit_value z.0) (tree j y.0) (word_value k a) (amount_tree k p.low) (word_value k (bit_number z.0 * (word_count k - 1))) (Some (word_value k (shifted z.0 (min s (2 ^ k)))))
+    p.gives (fills k ws z.0 (Pair (tree j y.0) (word_value k a)))
+    (left_number k ws p.low (amount_tree k p.low) a (bit_number z.0 * (word_count k - 1)) (amount k p.low) refl p.small i (fill_below z.0 (word_count k) (count_pos k)) refl
+    ∙ ap (λ n. Some (word_value k n)) (left_at k (amount k p.low) z.0 a (omega (arith, p.small)) ∙ ap (λ m. shifted z.0 m) (sym t))))
+    (λ some. let t = least_above p.high (2 ^ k) (amount k p.low) s sum some in
+    fills k ws z.0 (Pair (tree j y.0) (word_value k a)) ∙ ap (λ n. Some (word_value k n)) (left_all z.0 a (word_count k) (count_pos k) ∙ ap (λ m. shifted z.0 m) (sym t)))
+    ∙ ap (λ b. Some (word_value k ((a * 2 ^ min s (2 ^ k) + b * (2 ^ min s (2 ^ k) - 1)) % word_count k))) (z.1)
   where
     shifted : Bool → ℕ → ℕ
     shifted b t = (a * 2 ^ t + bit_number b * (2 ^ t - 1)) % word_count k
@@ -220,17 +222,17 @@ right_shifts_with j k fits ws f s a g h i =
     let p = split j k ws y.0 fits in
     let sum = p.sum ∙ y.1 in
     ap (λ u. meaning (right_shift_with j k) ws (Pair u (Pair (word_value j s) (word_value k a)))) (z.2)
-      ∙ ap (λ v. meaning (right_shift_with j k) ws (Pair (bit_value z.0) (Pair v (word_value k a)))) (y.2)
-      ∙ or_filled k (take (2 ^ j - k) (bit_paths j)) (PairTerm (I (O H) ⨾ bits j k) (PairTerm (fill k) (I (I H))) ⨾ shifted_right k) ws (bit_value z.0) (tree j y.0) (word_value k a) p.high
-          (Some (word_value k (shifted z.0 (min s (2 ^ k))))) p.over
-          (λ none. let t = least_below p.high (2 ^ k) (amount k p.low) s sum p.small none in
-            right_of_bits (bits j k) (shifted_right k) (fill k) ws (bit_value z.0) (tree j y.0) (word_value k a) (amount_tree k p.low) (word_value k (bit_number z.0 * (word_count k - 1))) (Some (word_value k (shifted z.0 (min s (2 ^ k)))))
-              p.gives (fills k ws z.0 (Pair (tree j y.0) (word_value k a)))
-              (right_number k ws p.low (amount_tree k p.low) (bit_number z.0 * (word_count k - 1)) a (amount k p.low) refl p.small (fill_below z.0 (word_count k) (count_pos k)) i refl
-                ∙ ap (λ n. Some (word_value k n)) (right_at k (amount k p.low) z.0 a (omega (arith, p.small)) ∙ ap (λ m. shifted z.0 m) (sym t))))
-          (λ some. let t = least_above p.high (2 ^ k) (amount k p.low) s sum some in
-            fills k ws z.0 (Pair (tree j y.0) (word_value k a)) ∙ ap (λ n. Some (word_value k n)) (right_all z.0 a (word_count k) (2 ^ k - 2 ^ k) i (omega arith) ∙ ap (λ m. shifted z.0 m) (sym t)))
-      ∙ ap (λ b. Some (word_value k (a / 2 ^ min s (2 ^ k) + b * (word_count k - 2 ^ (2 ^ k - min s (2 ^ k)))))) (z.1)
+    ∙ ap (λ v. meaning (right_shift_with j k) ws (Pair (bit_value z.0) (Pair v (word_value k a)))) (y.2)
+    ∙ or_filled k (take (2 ^ j - k) (bit_paths j)) (PairTerm (I (O H) ⨾ bits j k) (PairTerm (fill k) (I (I H))) ⨾ shifted_right k) ws (bit_value z.0) (tree j y.0) (word_value k a) p.high
+    (Some (word_value k (shifted z.0 (min s (2 ^ k))))) p.over
+    (λ none. let t = least_below p.high (2 ^ k) (amount k p.low) s sum p.small none in
+    right_of_bits (bits j k) (shifted_right k) (fill k) ws (bit_value z.0) (tree j y.0) (word_value k a) (amount_tree k p.low) (word_value k (bit_number z.0 * (word_count k - 1))) (Some (word_value k (shifted z.0 (min s (2 ^ k)))))
+    p.gives (fills k ws z.0 (Pair (tree j y.0) (word_value k a)))
+    (right_number k ws p.low (amount_tree k p.low) (bit_number z.0 * (word_count k - 1)) a (amount k p.low) refl p.small (fill_below z.0 (word_count k) (count_pos k)) i refl
+    ∙ ap (λ n. Some (word_value k n)) (right_at k (amount k p.low) z.0 a (omega (arith, p.small)) ∙ ap (λ m. shifted z.0 m) (sym t))))
+    (λ some. let t = least_above p.high (2 ^ k) (amount k p.low) s sum some in
+    fills k ws z.0 (Pair (tree j y.0) (word_value k a)) ∙ ap (λ n. Some (word_value k n)) (right_all z.0 a (word_count k) (2 ^ k - 2 ^ k) i (omega arith) ∙ ap (λ m. shifted z.0 m) (sym t)))
+    ∙ ap (λ b. Some (word_value k (a / 2 ^ min s (2 ^ k) + b * (word_count k - 2 ^ (2 ^ k - min s (2 ^ k)))))) (z.1)
   where
     shifted : Bool → ℕ → ℕ
     shifted b t = a / 2 ^ t + bit_number b * (word_count k - 2 ^ (2 ^ k - t))
@@ -256,7 +258,7 @@ shift2 : (t : ℕ → ℕ → Term) (F : ℕ → ℕ → ℕ → ℕ → Answer)
     → meaning (erased (flowed (t j k) source)) ws (Pair (word_value j s) (word_value k a)) ≡ F n k s a
 shift2 t F law n m j k e f fits source ws s a g h =
     with_arrows (t j k) source ws (Pair (word_value j s) (word_value k a)) (F n k s a)
-      (law j k fits ws s a (subst (λ x. s < 2 ^ x) f g) (subst (λ x. a < 2 ^ x) e h) ∙ ap (λ x. F x k s a) (sym e))
+    (law j k fits ws s a (subst (λ x. s < 2 ^ x) f g) (subst (λ x. a < 2 ^ x) e h) ∙ ap (λ x. F x k s a) (sym e))
 
 shift3 : (t : ℕ → ℕ → Term) (F : ℕ → ℕ → ℕ → ℕ → ℕ → Answer)
     → ((j k : ℕ) → k ≤ 2 ^ j → (ws : List Value) (c s a : ℕ) → c < word_count 0 → s < word_count j → a < word_count k → meaning (t j k) ws (Pair (word_value 0 c) (Pair (word_value j s) (word_value k a))) ≡ F (2 ^ k) k c s a)
@@ -264,7 +266,7 @@ shift3 : (t : ℕ → ℕ → Term) (F : ℕ → ℕ → ℕ → ℕ → ℕ →
     → meaning (erased (flowed (t j k) source)) ws (Pair (word_value 0 c) (Pair (word_value j s) (word_value k a))) ≡ F n k c s a
 shift3 t F law n m j k e f fits source ws c s a g h i =
     with_arrows (t j k) source ws (Pair (word_value 0 c) (Pair (word_value j s) (word_value k a))) (F n k c s a)
-      (law j k fits ws c s a g (subst (λ x. s < 2 ^ x) f h) (subst (λ x. a < 2 ^ x) e i) ∙ ap (λ x. F x k c s a) (sym e))
+    (law j k fits ws c s a g (subst (λ x. s < 2 ^ x) f h) (subst (λ x. a < 2 ^ x) e i) ∙ ap (λ x. F x k c s a) (sym e))
 
 pub left_shift_with_law : IsFormula jet.LeftShiftWith
 left_shift_with_law n w is xs ws all =

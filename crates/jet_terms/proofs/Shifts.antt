@@ -88,15 +88,15 @@ Rights k w s h l = Shifts k (shifted_right k) w s h l (cofactor k s) (factor k s
 
 lefts_by : (k : ℕ) (w : List Value) (b : Bool) (s : Amount k) (h l : Digits (suc k)) → Lefts k w s h.0 h.1 → Lefts k w s h.1 l.0 → Lefts k w s l.0 l.1 → Lefts (suc k) w (b, s) h l
 lefts_by k w false s h l p q r = record {
-    result = (p.result, q.result);
-    gives = rw (p.gives, q.gives) refl;
-    law = rw (p.law, q.law) (early_step (number k h.0) (number k h.1) (number k l.0) (number k l.1) (factor k s) (cofactor k s) (word_count k) (whole k s) ((positive (factor k s) (cofactor k s) (word_count k) (whole k s) (count_pos k)).1) (number_below k h.1) (number_below k l.1));
-  }
+  result = (p.result, q.result);
+  gives = rw (p.gives, q.gives) refl;
+  law = rw (p.law, q.law) (early_step (number k h.0) (number k h.1) (number k l.0) (number k l.1) (factor k s) (cofactor k s) (word_count k) (whole k s) ((positive (factor k s) (cofactor k s) (word_count k) (whole k s) (count_pos k)).1) (number_below k h.1) (number_below k l.1));
+}
 lefts_by k w true s h l p q r = record {
-    result = (q.result, r.result);
-    gives = rw (q.gives, r.gives) refl;
-    law = rw (q.law, r.law) (late_step (number k h.0) (number k h.1) (number k l.0) (number k l.1) (factor k s) (cofactor k s) (word_count k) (whole k s) ((positive (factor k s) (cofactor k s) (word_count k) (whole k s) (count_pos k)).1));
-  }
+  result = (q.result, r.result);
+  gives = rw (q.gives, r.gives) refl;
+  law = rw (q.law, r.law) (late_step (number k h.0) (number k h.1) (number k l.0) (number k l.1) (factor k s) (cofactor k s) (word_count k) (whole k s) ((positive (factor k s) (cofactor k s) (word_count k) (whole k s) (count_pos k)).1));
+}
 
 pub lefts : (k : ℕ) (w : List Value) (s : Amount k) (h l : Digits k) → Lefts k w s h l
 lefts zero w s false false = record { result = false; gives = refl; law = refl }
@@ -107,18 +107,18 @@ lefts (suc k) w s h l = lefts_by k w s.0 s.1 h l (lefts k w s.1 h.0 h.1) (lefts 
 
 rights_by : (k : ℕ) (w : List Value) (b : Bool) (s : Amount k) (h l : Digits (suc k)) → Rights k w s h.0 h.1 → Rights k w s h.1 l.0 → Rights k w s l.0 l.1 → Rights (suc k) w (b, s) h l
 rights_by k w false s h l p q r = record {
-    result = (q.result, r.result);
-    gives = rw (q.gives, r.gives) refl;
-    law = rw (q.law, r.law) (late_step (number k h.0) (number k h.1) (number k l.0) (number k l.1) (cofactor k s) (factor k s) (word_count k) (turn k s) ((positive (factor k s) (cofactor k s) (word_count k) (whole k s) (count_pos k)).0));
-  }
+  result = (q.result, r.result);
+  gives = rw (q.gives, r.gives) refl;
+  law = rw (q.law, r.law) (late_step (number k h.0) (number k h.1) (number k l.0) (number k l.1) (cofactor k s) (factor k s) (word_count k) (turn k s) ((positive (factor k s) (cofactor k s) (word_count k) (whole k s) (count_pos k)).0));
+}
   where
     turn : (k : ℕ) (s : Amount k) → cofactor k s * factor k s ≡ word_count k
     turn k s = omega (arith, whole k s)
 rights_by k w true s h l p q r = record {
-    result = (p.result, q.result);
-    gives = rw (p.gives, q.gives) refl;
-    law = rw (p.law, q.law) (early_step (number k h.0) (number k h.1) (number k l.0) (number k l.1) (cofactor k s) (factor k s) (word_count k) (turn k s) ((positive (factor k s) (cofactor k s) (word_count k) (whole k s) (count_pos k)).0) (number_below k h.1) (number_below k l.1));
-  }
+  result = (p.result, q.result);
+  gives = rw (p.gives, q.gives) refl;
+  law = rw (p.law, q.law) (early_step (number k h.0) (number k h.1) (number k l.0) (number k l.1) (cofactor k s) (factor k s) (word_count k) (turn k s) ((positive (factor k s) (cofactor k s) (word_count k) (whole k s) (count_pos k)).0) (number_below k h.1) (number_below k l.1));
+}
   where
     turn : (k : ℕ) (s : Amount k) → cofactor k s * factor k s ≡ word_count k
     turn k s = omega (arith, whole k s)

@@ -45,19 +45,19 @@ increments k ws a f = full_increments k ws 1 a (omega arith) f
 pub full_add_law : IsFormula jet.FullAdd
 full_add_law n w is xs ws all =
     args3 jet.Truth (jet.Number n) (jet.Number n) (Gives jet.FullAdd n w ws)
-      (at_bit2 full_add (λ n k c a b. Some (Pair (word_value 0 ((a + b + c) / 2 ^ n)) (word_value k ((a + b + c) % 2 ^ n)))) full_sums n (level_of n) (usual_level n w is) (source_of jet.FullAdd n w) ws) xs all
+    (at_bit2 full_add (λ n k c a b. Some (Pair (word_value 0 ((a + b + c) / 2 ^ n)) (word_value k ((a + b + c) % 2 ^ n)))) full_sums n (level_of n) (usual_level n w is) (source_of jet.FullAdd n w) ws) xs all
 
 pub add_law : IsFormula jet.Add
 add_law n w is xs ws all =
     args2 (jet.Number n) (jet.Number n) (Gives jet.Add n w ws)
-      (at2 add (λ n k a b. Some (Pair (word_value 0 ((a + b) / 2 ^ n)) (word_value k ((a + b) % 2 ^ n)))) plain_sums n (level_of n) (usual_level n w is) (source_of jet.Add n w) ws) xs all
+    (at2 add (λ n k a b. Some (Pair (word_value 0 ((a + b) / 2 ^ n)) (word_value k ((a + b) % 2 ^ n)))) plain_sums n (level_of n) (usual_level n w is) (source_of jet.Add n w) ws) xs all
 
 pub full_increment_law : IsFormula jet.FullIncrement
 full_increment_law n w is xs ws all =
     args2 jet.Truth (jet.Number n) (Gives jet.FullIncrement n w ws)
-      (at_bit1 full_increment (λ n k c a. Some (Pair (word_value 0 ((a + c) / 2 ^ n)) (word_value k ((a + c) % 2 ^ n)))) full_increments n (level_of n) (usual_level n w is) (source_of jet.FullIncrement n w) ws) xs all
+    (at_bit1 full_increment (λ n k c a. Some (Pair (word_value 0 ((a + c) / 2 ^ n)) (word_value k ((a + c) % 2 ^ n)))) full_increments n (level_of n) (usual_level n w is) (source_of jet.FullIncrement n w) ws) xs all
 
 pub increment_law : IsFormula jet.Increment
 increment_law n w is xs ws all =
     args1 (jet.Number n) (Gives jet.Increment n w ws)
-      (at1 increment (λ n k a. Some (Pair (word_value 0 ((a + 1) / 2 ^ n)) (word_value k ((a + 1) % 2 ^ n)))) increments n (level_of n) (usual_level n w is) (source_of jet.Increment n w) ws) xs all
+    (at1 increment (λ n k a. Some (Pair (word_value 0 ((a + 1) / 2 ^ n)) (word_value k ((a + 1) % 2 ^ n)))) increments n (level_of n) (usual_level n w is) (source_of jet.Increment n w) ws) xs all

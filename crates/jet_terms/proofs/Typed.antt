@@ -3,13 +3,10 @@ use Rattle.std.proofs.Common.{◌≡◌, ℕ, zero, suc, ◌+◌, ◌-◌, ◌^�
 use Rattle.std.specs.Prelude.{◌++◌, map, length, take, drop}
 use Rattle.std.proofs.lemmas.List.{length-append, length-map, length-drop}
 use Rattle.simplicity.specs.Types.{Kind, One, Product, word_kind}
-use Rattle.simplicity.specs.Typing.{IsTyped, TypedIden, TypedUnit, TypedInjl, TypedInjr, TypedTake, TypedDrop, TypedComp, TypedCase, TypedAssertR, TypedPair, TypedWord}
 use Rattle.simplicity.specs.Terms.{Term, PairTerm, Injl, Injr, UnitTerm, Case}
 use Rattle.jet_terms.specs.Trees.{lift1, lift2, lift3, not_1, and_1, or_1, xor_1, maj_1, xor_xor_1, ch_1, complement, zeros, ones, verify, some_bit, all_bits, is_zero, is_one, eq, lt, le, least, greatest, median, full_add, add, full_subtract, subtract, full_increment, increment, full_decrement, decrement, negate, full_multiply, multiply, div_step, division, div_mod, divide, modulo, divides, leftmost, rightmost, left_pad, right_pad, left_extend, right_extend, cond, bit_paths, nested, bits, any_of, fill, or_fill, shifted_left, shifted_right, left_shift_with, right_shift_with, left_shift, right_shift, left_rotate, right_rotate, ◌⨾◌, O, I, H}
 use Rattle.jet_terms.proofs.PartLaws.{up, up_is, up_zero}
 use Rattle.simplicity.specs.Flowed.{leads_to, StartsFrom}
-use Rattle.simplicity.specs.Makes.{first_of, second_of, left_of, right_of}
-use Rattle.simplicity.specs.Terms as plain
 
 -- from this type to that
 abbrev pub Leads : Term → Kind → Kind → Type 0
@@ -131,8 +128,8 @@ pub full_subtract_leads : (k : ℕ) → Leads (full_subtract k) (sum_source k) (
 full_subtract_leads k =
     let c = lift1_leads not_1 not_1_leads k in
     comp_leads (PairTerm (O not_1) (PairTerm (I (O H)) (I (I H) ⨾ complement k)) ⨾ full_add k) (PairTerm (O not_1) (I H)) (sum_source k) (sum_kind k) (sum_kind k)
-      (comp_leads (PairTerm (O not_1) (PairTerm (I (O H)) (I (I H) ⨾ complement k))) (full_add k) (sum_source k) (sum_source k) (sum_kind k) (assumption (c.0, refl), rw (c.1) refl) (full_add_leads k))
-      (assumption refl, refl)
+    (comp_leads (PairTerm (O not_1) (PairTerm (I (O H)) (I (I H) ⨾ complement k))) (full_add k) (sum_source k) (sum_source k) (sum_kind k) (assumption (c.0, refl), rw (c.1) refl) (full_add_leads k))
+    (assumption refl, refl)
 
 pub subtract_leads : (k : ℕ) → Leads (subtract k) (words k) (sum_kind k)
 subtract_leads k = zero_first (full_subtract k) (words k) (sum_kind k) (full_subtract_leads k)
@@ -158,13 +155,13 @@ pub step_leads : (k : ℕ) → Leads (div_step k) (sum_source k) (sum_kind k)
 step_leads k =
     let i = full_add_leads k in
     comp_leads (PairTerm (PairTerm (O H) (PairTerm (I (O H)) (I (O H))) ⨾ full_add k) (I (I H)) ⨾ PairTerm (O H) (PairTerm (O (I H)) (I H) ⨾ subtract k))
-      (cond (PairTerm (O (O H)) (I (O H) ⨾ not_1) ⨾ or_1) (PairTerm (Injl UnitTerm) (O (I H))) (PairTerm (Injr UnitTerm) (I (I H))))
-      (sum_source k) (Product (sum_kind k) (sum_kind k)) (sum_kind k)
-      (comp_leads (PairTerm (PairTerm (O H) (PairTerm (I (O H)) (I (O H))) ⨾ full_add k) (I (I H))) (PairTerm (O H) (PairTerm (O (I H)) (I H) ⨾ subtract k))
-        (sum_source k) (Product (sum_kind k) (word_kind k)) (Product (sum_kind k) (sum_kind k)) (assumption (i.0, refl), rw (i.1) refl)
-        (pair_leads (O H) (PairTerm (O (I H)) (I H) ⨾ subtract k) (Product (sum_kind k) (word_kind k)) (sum_kind k) (sum_kind k) (assumption refl, refl)
-          (comp_leads (PairTerm (O (I H)) (I H)) (subtract k) (Product (sum_kind k) (word_kind k)) (words k) (sum_kind k) (assumption refl, refl) (subtract_leads k))))
-      (assumption refl, refl)
+    (cond (PairTerm (O (O H)) (I (O H) ⨾ not_1) ⨾ or_1) (PairTerm (Injl UnitTerm) (O (I H))) (PairTerm (Injr UnitTerm) (I (I H))))
+    (sum_source k) (Product (sum_kind k) (sum_kind k)) (sum_kind k)
+    (comp_leads (PairTerm (PairTerm (O H) (PairTerm (I (O H)) (I (O H))) ⨾ full_add k) (I (I H))) (PairTerm (O H) (PairTerm (O (I H)) (I H) ⨾ subtract k))
+    (sum_source k) (Product (sum_kind k) (word_kind k)) (Product (sum_kind k) (sum_kind k)) (assumption (i.0, refl), rw (i.1) refl)
+    (pair_leads (O H) (PairTerm (O (I H)) (I H) ⨾ subtract k) (Product (sum_kind k) (word_kind k)) (sum_kind k) (sum_kind k) (assumption refl, refl)
+    (comp_leads (PairTerm (O (I H)) (I H)) (subtract k) (Product (sum_kind k) (word_kind k)) (words k) (sum_kind k) (assumption refl, refl) (subtract_leads k))))
+    (assumption refl, refl)
 
 pub division_leads : (j k : ℕ) → Leads (division j k) (Product (word_kind j) (words k)) (Product (word_kind j) (word_kind k))
 division_leads zero k = step_leads k
@@ -207,12 +204,12 @@ ones_lead k a = ((tt, refl), refl)
 pub left_extend_leads : (k d : ℕ) → Leads (left_extend k d) (word_kind k) (word_kind (up k d))
 left_extend_leads k d =
     cond_leads (leftmost k) (left_pad zeros k d) (left_pad ones k d) (word_kind k) (word_kind (up k d))
-      (subst (λ m. Leads (leftmost k) (word_kind m) bit_kind) (up_zero k) (leftmost_leads 0 k)) (left_pad_leads zeros zeros_lead k d) (left_pad_leads ones ones_lead k d)
+    (subst (λ m. Leads (leftmost k) (word_kind m) bit_kind) (up_zero k) (leftmost_leads 0 k)) (left_pad_leads zeros zeros_lead k d) (left_pad_leads ones ones_lead k d)
 
 pub right_extend_leads : (k d : ℕ) → Leads (right_extend k d) (word_kind k) (word_kind (up k d))
 right_extend_leads k d =
     cond_leads (rightmost k) (right_pad zeros k d) (right_pad ones k d) (word_kind k) (word_kind (up k d))
-      (subst (λ m. Leads (rightmost k) (word_kind m) bit_kind) (up_zero k) (rightmost_leads 0 k)) (right_pad_leads zeros zeros_lead k d) (right_pad_leads ones ones_lead k d)
+    (subst (λ m. Leads (rightmost k) (word_kind m) bit_kind) (up_zero k) (rightmost_leads 0 k)) (right_pad_leads zeros zeros_lead k d) (right_pad_leads ones ones_lead k d)
 
 -- lists of bits
 abbrev pub bits_kind : ℕ → Kind
@@ -254,7 +251,7 @@ paths_length : (j : ℕ) → length (bit_paths j) ≡ 2 ^ j
 paths_length zero = refl
 paths_length (suc j) =
     length-append (map O (bit_paths j)) (map I (bit_paths j))
-      ∙ (let e = length-map (bit_paths j) O in let f = length-map (bit_paths j) I in let i = paths_length j in let q : 2 ^ suc j ≡ 2 ^ j + 2 ^ j = omega arith in omega (arith, e, f, i, q))
+    ∙ (let e = length-map (bit_paths j) O in let f = length-map (bit_paths j) I in let i = paths_length j in let q : 2 ^ suc j ≡ 2 ^ j + 2 ^ j = omega arith in omega (arith, e, f, i, q))
 
 nested_leads : (ps : List Term) (a : Kind) → AllLead ps a → Leads (nested ps) a (bits_kind (length ps))
 nested_leads [] a h = (tt, refl)
@@ -290,29 +287,29 @@ left_middle_leads : (b g : Term) (j k : ℕ) → Leads b (word_kind j) (bits_kin
     → Leads (PairTerm (I (O H) ⨾ b) (PairTerm (I (I H)) (fill k)) ⨾ g) (Product bit_kind (Product (word_kind j) (word_kind k))) (word_kind k)
 left_middle_leads b g j k e f =
     comp_leads (PairTerm (I (O H) ⨾ b) (PairTerm (I (I H)) (fill k))) g (Product bit_kind (Product (word_kind j) (word_kind k))) (Product (bits_kind k) (words k)) (word_kind k)
-      (pair_leads (I (O H) ⨾ b) (PairTerm (I (I H)) (fill k)) (Product bit_kind (Product (word_kind j) (word_kind k))) (bits_kind k) (words k) (assumption (e.0, refl), e.1) (assumption refl, refl)) f
+    (pair_leads (I (O H) ⨾ b) (PairTerm (I (I H)) (fill k)) (Product bit_kind (Product (word_kind j) (word_kind k))) (bits_kind k) (words k) (assumption (e.0, refl), e.1) (assumption refl, refl)) f
 
 right_middle_leads : (b g : Term) (j k : ℕ) → Leads b (word_kind j) (bits_kind k) → Leads g (Product (bits_kind k) (words k)) (word_kind k)
     → Leads (PairTerm (I (O H) ⨾ b) (PairTerm (fill k) (I (I H))) ⨾ g) (Product bit_kind (Product (word_kind j) (word_kind k))) (word_kind k)
 right_middle_leads b g j k e f =
     comp_leads (PairTerm (I (O H) ⨾ b) (PairTerm (fill k) (I (I H)))) g (Product bit_kind (Product (word_kind j) (word_kind k))) (Product (bits_kind k) (words k)) (word_kind k)
-      (pair_leads (I (O H) ⨾ b) (PairTerm (fill k) (I (I H))) (Product bit_kind (Product (word_kind j) (word_kind k))) (bits_kind k) (words k) (assumption (e.0, refl), e.1) (assumption refl, refl)) f
+    (pair_leads (I (O H) ⨾ b) (PairTerm (fill k) (I (I H))) (Product bit_kind (Product (word_kind j) (word_kind k))) (bits_kind k) (words k) (assumption (e.0, refl), e.1) (assumption refl, refl)) f
 
 rotate_leads : (b g : Term) (j k : ℕ) → Leads b (word_kind j) (bits_kind k) → Leads g (Product (bits_kind k) (words k)) (word_kind k)
     → Leads (PairTerm (O H ⨾ b) (PairTerm (I H) (I H)) ⨾ g) (Product (word_kind j) (word_kind k)) (word_kind k)
 rotate_leads b g j k e f =
     comp_leads (PairTerm (O H ⨾ b) (PairTerm (I H) (I H))) g (Product (word_kind j) (word_kind k)) (Product (bits_kind k) (words k)) (word_kind k)
-      (pair_leads (O H ⨾ b) (PairTerm (I H) (I H)) (Product (word_kind j) (word_kind k)) (bits_kind k) (words k) (assumption (e.0, refl), e.1) (assumption refl, refl)) f
+    (pair_leads (O H ⨾ b) (PairTerm (I H) (I H)) (Product (word_kind j) (word_kind k)) (bits_kind k) (words k) (assumption (e.0, refl), e.1) (assumption refl, refl)) f
 
 pub left_shift_with_leads : (j k : ℕ) → k ≤ 2 ^ j → Leads (left_shift_with j k) (Product bit_kind (Product (word_kind j) (word_kind k))) (word_kind k)
 left_shift_with_leads j k h =
     or_fill_leads j k (take (2 ^ j - k) (bit_paths j)) (PairTerm (I (O H) ⨾ bits j k) (PairTerm (I (I H)) (fill k)) ⨾ shifted_left k) (lead_taken (2 ^ j - k) (bit_paths j) (word_kind j) (paths_lead j))
-      (left_middle_leads (bits j k) (shifted_left k) j k (bits_lead j k h) (lefts_lead k))
+    (left_middle_leads (bits j k) (shifted_left k) j k (bits_lead j k h) (lefts_lead k))
 
 pub right_shift_with_leads : (j k : ℕ) → k ≤ 2 ^ j → Leads (right_shift_with j k) (Product bit_kind (Product (word_kind j) (word_kind k))) (word_kind k)
 right_shift_with_leads j k h =
     or_fill_leads j k (take (2 ^ j - k) (bit_paths j)) (PairTerm (I (O H) ⨾ bits j k) (PairTerm (fill k) (I (I H))) ⨾ shifted_right k) (lead_taken (2 ^ j - k) (bit_paths j) (word_kind j) (paths_lead j))
-      (right_middle_leads (bits j k) (shifted_right k) j k (bits_lead j k h) (rights_lead k))
+    (right_middle_leads (bits j k) (shifted_right k) j k (bits_lead j k h) (rights_lead k))
 
 pub left_shift_leads : (j k : ℕ) → k ≤ 2 ^ j → Leads (left_shift j k) (Product (word_kind j) (word_kind k)) (word_kind k)
 left_shift_leads j k h = zero_first (left_shift_with j k) (Product (word_kind j) (word_kind k)) (word_kind k) (left_shift_with_leads j k h)

@@ -25,9 +25,9 @@ turn_right a x y s t f g =
       from = refl;
       to = g.to;
       typed = typed_comp (pair second made) t
-        (typed_pair second made (typed_first a (on_second x (iden y)) (typed_second x (iden y) (row.Iden y)))
+          (typed_pair second made (typed_first a (on_second x (iden y)) (typed_second x (iden y) (row.Iden y)))
           (typed_comp first s (typed_pair (on_first a (on_first y (iden x))) (on_second (Product x y) (iden a)) (typed_first a (on_first y (iden x)) (typed_first y (iden x) (row.Iden x))) (typed_second (Product x y) (iden a) (row.Iden a)) refl) f.typed (sym f.from)) refl)
-        g.typed (ap (Product y) f.to ∙ sym g.from);
+          g.typed (ap (Product y) f.to ∙ sym g.from);
     }
 
 in_turn_right : (a x y : Kind) (s t : Declared) → IsTypedFrom s (Product x a) a → IsTypedFrom t (Product y a) a → IsTypedFrom (in_turn s t) (Product (Product x y) a) a
@@ -54,15 +54,15 @@ halves_right f item a h zero (suc (suc n)) few = absurd (omega arith)
 halves_right f item a h (suc turns) (suc (suc n)) few =
     let m = suc (suc n) in
     joined a f item turns (m / 2) (m - m / 2) (take (length (replicate m f) / 2) (replicate m f)) (drop (length (replicate m f) / 2) (replicate m f)) (take (length (replicate m item) / 2) (replicate m item)) (drop (length (replicate m item) / 2) (replicate m item))
-      (front_of f m) (back_of f m) (front_of item m) (back_of item m)
-      (halves_right f item a h turns (m / 2) (omega (arith, few))) (halves_right f item a h turns (m - m / 2) (omega (arith, few)))
+    (front_of f m) (back_of f m) (front_of item m) (back_of item m)
+    (halves_right f item a h turns (m / 2) (omega (arith, few))) (halves_right f item a h turns (m - m / 2) (omega (arith, few)))
 
 array_right : (f : Declared) (item a : Kind) → IsTypedFrom f (Product item a) a → (count : ℕ) → IsTypedFrom (array_fold f count) (Product (copies_kind count item) a) a
 array_right f item a h count =
     let made : made_kind f ≡ a = ap second_of h.from in
     let long : length (replicate count item) ≡ count = length-replicate count item in
     subst (λ k. IsTypedFrom (halves count (made_before k) in_turn (replicate count f)) (Product (copies_kind count item) a) a) (sym made)
-      (subst (λ t. IsTypedFrom (halves count (made_before a) in_turn (replicate count f)) (Product (halves t One Product (replicate count item)) a) a) (sym long) (halves_right f item a h count count (omega arith)))
+    (subst (λ t. IsTypedFrom (halves count (made_before a) in_turn (replicate count f)) (Product (halves t One Product (replicate count item)) a) a) (sym long) (halves_right f item a h count count (omega arith)))
 
 there_right : (a x : Kind) (t : Declared) → IsTypedFrom t (Product x a) a → IsTypedFrom (where_there t) (Product (Sum One x) a) a
 there_right a x t h =
@@ -87,8 +87,8 @@ turned a c bit_kind k f bit h g =
       from = refl;
       to = h.to;
       typed = typed_comp (pair first rest) f
-        (typed_pair first rest (typed_first c (iden a) (row.Iden a)) (typed_pair (on_second a (iden c)) bit (typed_second a (iden c) (row.Iden c)) g.typed g.from) refl) h.typed
-        (ap (λ b. Product a (Product c b)) g.to ∙ sym h.from);
+          (typed_pair first rest (typed_first c (iden a) (row.Iden a)) (typed_pair (on_second a (iden c)) bit (typed_second a (iden c) (row.Iden c)) g.typed g.from) refl) h.typed
+          (ap (λ b. Product a (Product c b)) g.to ∙ sym h.from);
     }
 
 two_right : (a c b : Kind) (f : Declared) → IsTypedFrom f (Product a (Product c (Sum One One))) (Sum b a) → IsTypedFrom (two_turns_of a c b f) (Product a c) (Sum b a)
@@ -106,9 +106,9 @@ two_right a c b f h =
       from = refl;
       to = refl;
       typed = typed_comp (pair first (on_second a (iden c))) by
-        (typed_pair first (on_second a (iden c)) first_right.typed (typed_second a (iden c) (row.Iden c)) refl)
-        (typed_tag b a c ended second (typed_left a (on_first c (iden b)) (typed_first c (iden b) (row.Iden b))) second_right.typed refl refl second_right.to)
-        (ap (λ k. Product k c) first_right.to);
+          (typed_pair first (on_second a (iden c)) first_right.typed (typed_second a (iden c) (row.Iden c)) refl)
+          (typed_tag b a c ended second (typed_left a (on_first c (iden b)) (typed_first c (iden b) (row.Iden b))) second_right.typed refl refl second_right.to)
+          (ap (λ k. Product k c) first_right.to);
     }
 
 grouped_right : (a c n k : Kind) (f : Declared) → IsTypedFrom f (Product a (Product c (Product n n))) k → IsTypedFrom (regrouped_of a c n f) (Product a (Product (Product c n) n)) k
@@ -125,18 +125,18 @@ grouped_right a c n k f h =
       from = refl;
       to = h.to;
       typed = typed_comp (pair w (pair x (pair y z))) f
-        (typed_pair w (pair x (pair y z)) (typed_first (Product inner n) (iden a) (row.Iden a)) (typed_pair x (pair y z) x_typed (typed_pair y z y_typed z_typed refl) refl) refl)
-        h.typed (sym h.from);
+          (typed_pair w (pair x (pair y z)) (typed_first (Product inner n) (iden a) (row.Iden a)) (typed_pair x (pair y z) x_typed (typed_pair y z y_typed z_typed refl) refl) refl)
+          h.typed (sym h.from);
     }
 
 pub whiles_typed : WhilesTyped
 whiles_typed zero f a c b h =
     subst (λ k. IsTypedFrom (two_turns_of (first_of k) (first_of (second_of k)) (left_of (target f)) f) (Product a c) (Sum b a)) (sym h.from)
-      (subst (λ k. IsTypedFrom (two_turns_of a c (left_of k) f) (Product a c) (Sum b a)) (sym h.to) (two_right a c b f h))
+    (subst (λ k. IsTypedFrom (two_turns_of a c (left_of k) f) (Product a c) (Sum b a)) (sym h.to) (two_right a c b f h))
 whiles_typed (suc k) f a c b h =
     let n = word_kind k in
     let grouped : IsTypedFrom (regrouped k f) (Product a (Product (Product c n) n)) (Sum b a) =
-          subst (λ s. IsTypedFrom (regrouped_of (first_of s) (first_of (second_of s)) n f) (Product a (Product (Product c n) n)) (Sum b a)) (sym h.from) (grouped_right a c n (Sum b a) f h) in
+    subst (λ s. IsTypedFrom (regrouped_of (first_of s) (first_of (second_of s)) n f) (Product a (Product (Product c n) n)) (Sum b a)) (sym h.from) (grouped_right a c n (Sum b a) f h) in
     whiles_typed k (while_at k (regrouped k f)) a c b (whiles_typed k (regrouped k f) a (Product c n) b grouped)
 
 -- the recursion that code makes

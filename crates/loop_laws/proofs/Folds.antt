@@ -53,8 +53,8 @@ module _ (w : List Value) where
       ap (λ fs. mean (in_turn (halves turns (made_before (made_kind f)) in_turn fs) (halves turns (made_before (made_kind f)) in_turn (drop (length (replicate (length l) f) / 2) (replicate (length l) f)))) (Pair (halves (suc turns) UnitValue Pair l) a)) front
       ∙ ap (λ fs. mean (in_turn (halves turns (made_before (made_kind f)) in_turn (replicate (length (take n l)) f)) (halves turns (made_before (made_kind f)) in_turn fs)) (Pair (halves (suc turns) UnitValue Pair l) a)) back
       ∙ in_turn_means (on_items w f) (halves turns (made_before (made_kind f)) in_turn (replicate (length (take n l)) f)) (halves turns (made_before (made_kind f)) in_turn (replicate (length (drop n l)) f)) (take n l) (drop n l)
-          (halves turns UnitValue Pair (take n l)) (halves turns UnitValue Pair (drop n l)) a
-          (λ b. halves_mean f turns (take n l) b (omega (arith, h, front_length))) (λ b. halves_mean f turns (drop n l) b (omega (arith, h, back_length)))
+      (halves turns UnitValue Pair (take n l)) (halves turns UnitValue Pair (drop n l)) a
+      (λ b. halves_mean f turns (take n l) b (omega (arith, h, front_length))) (λ b. halves_mean f turns (drop n l) b (omega (arith, h, back_length)))
       ∙ ap (λ xs. core_folded (on_items w f) xs a) (take-append-drop n l)
 
   pub array_means : (f : Declared) (vs : List Value) (a : Value) → mean (array_fold f (length vs)) (Pair (tuple_value vs) a) ≡ core_folded (on_items w f) vs a
@@ -82,15 +82,15 @@ module _ (w : List Value) where
   by_length f level ih vs c a true less e =
       let r = beside (Inl UnitValue) (list_value level vs) c e in
       subst (λ x. mean (list_fold f (suc level)) (Pair x a) ≡ core_folded (on_items w f) vs a) r.is
-        (in_turn_means (on_items w f) (where_there (array_fold f (2 ^ suc level))) (list_fold f level) [] vs (Inl UnitValue) r.rest a (λ b. refl) (λ b. ih vs r.rest b r.was))
+      (in_turn_means (on_items w f) (where_there (array_fold f (2 ^ suc level))) (list_fold f level) [] vs (Inl UnitValue) r.rest a (λ b. refl) (λ b. ih vs r.rest b r.was))
   by_length f level ih vs c a false more e =
       let front = take (2 ^ suc level) vs in
       let back = drop (2 ^ suc level) vs in
       let r = beside (Inr (tuple_value front)) (list_value level back) c e in
       subst (λ x. mean (list_fold f (suc level)) (Pair x a) ≡ core_folded (on_items w f) vs a) r.is
-        (in_turn_means (on_items w f) (where_there (array_fold f (2 ^ suc level))) (list_fold f level) front back (Inr (tuple_value front)) r.rest a
-           (λ b. block_means f (2 ^ suc level) front b (omega (arith, ltb-false (length vs) (2 ^ suc level) more, length-take (2 ^ suc level) vs))) (λ b. ih back r.rest b r.was)
-         ∙ ap (λ xs. core_folded (on_items w f) xs a) (take-append-drop (2 ^ suc level) vs))
+      (in_turn_means (on_items w f) (where_there (array_fold f (2 ^ suc level))) (list_fold f level) front back (Inr (tuple_value front)) r.rest a
+      (λ b. block_means f (2 ^ suc level) front b (omega (arith, ltb-false (length vs) (2 ^ suc level) more, length-take (2 ^ suc level) vs))) (λ b. ih back r.rest b r.was)
+      ∙ ap (λ xs. core_folded (on_items w f) xs a) (take-append-drop (2 ^ suc level) vs))
 
   pub list_means : (f : Declared) (level : ℕ) (vs : List Value) (c a : Value) → list_value level vs ≡ Some c → mean (list_fold f level) (Pair c a) ≡ core_folded (on_items w f) vs a
   list_means f zero [] c a e = subst (λ x. mean (list_fold f zero) (Pair x a) ≡ Some a) (some_same (Inl UnitValue) c e) refl

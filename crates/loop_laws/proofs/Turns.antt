@@ -43,7 +43,7 @@ ran_nested g m zero n a = ran_from g (n * suc m) m 0 a ∙ ran_for g m (0 * suc 
 ran_nested g m (suc t) n a =
     ap (λ o. and_then o (go_on (ran (λ i b. ran (λ j. g (i * suc m + j)) m 0 b) t (n + 1)))) (ran_from g (n * suc m) m 0 a ∙ ran_for g m m (n * suc m + 0) (n * suc m) a refl (omega arith))
     ∙ go_on_same (ran (λ i b. ran (λ j. g (i * suc m + j)) m 0 b) t (n + 1)) (ran g (t * suc m + m) (n * suc m + suc m)) (ran g m (n * suc m) a)
-        (λ b. ran_nested g m t (n + 1) b ∙ ran_for g (t * suc m + m) (t * suc m + m) ((n + 1) * suc m) (n * suc m + suc m) b refl (omega arith))
+    (λ b. ran_nested g m t (n + 1) b ∙ ran_for g (t * suc m + m) (t * suc m + m) ((n + 1) * suc m) (n * suc m + suc m) b refl (omega arith))
     ∙ sym (ran_append g m (t * suc m + m) (n * suc m) a)
     ∙ ran_for g (m + suc (t * suc m + m)) (suc t * suc m + m) (n * suc m) (n * suc m) a (omega arith) refl
 
@@ -81,10 +81,10 @@ module _ (w : List Value) where
       let square : suc more ≡ suc m * suc m = e ∙ count_square k ∙ ap (λ x. x * x) (sym some) in
       while_ran k inner c a m some
       ∙ ran_same (at_count w inner k c) (λ i b. ran (λ j. step (i * suc m + j)) m 0 b) (suc m)
-          (λ n b less. while_ran k h (Pair c (word_value k n)) b m some
-            ∙ ran_same (at_count w h k (Pair c (word_value k n))) (λ j. step (n * suc m + j)) (suc m)
-                (λ j d low. ap (λ x. mean f (Pair d (Pair c x))) (sym (ap (λ x. word_value (suc k) (n * x + j)) some ∙ halves_of k n j (subst (λ x. j < x) some low)))) m 0 (omega arith) b)
-          m 0 (omega arith) a
+      (λ n b less. while_ran k h (Pair c (word_value k n)) b m some
+      ∙ ran_same (at_count w h k (Pair c (word_value k n))) (λ j. step (n * suc m + j)) (suc m)
+      (λ j d low. ap (λ x. mean f (Pair d (Pair c x))) (sym (ap (λ x. word_value (suc k) (n * x + j)) some ∙ halves_of k n j (subst (λ x. j < x) some low)))) m 0 (omega arith) b)
+      m 0 (omega arith) a
       ∙ ran_nested step m m 0 a
       ∙ ran_for step (m * suc m + m) more (0 * suc m) 0 a (omega (arith, square)) (omega arith)
 

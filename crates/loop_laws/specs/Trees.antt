@@ -63,14 +63,14 @@ one_bit a c = to_right One (unit (Product a c))
 abbrev pub two_turns_of : (a c b : Kind) (f : Declared) → Declared
 two_turns_of a c b f =
     comp (pair (turn_of a c f (zero_bit a c)) (on_second a (iden c)))
-      (by_tag b a c (to_left a (on_first c (iden b))) (turn_of a c f (one_bit a c)))
+    (by_tag b a c (to_left a (on_first c (iden b))) (turn_of a c f (one_bit a c)))
 
 -- the function with the high half of the counter, of 2 ^ k bits, in its context
 abbrev pub regrouped_of : (a c n : Kind) (f : Declared) → Declared
 regrouped_of a c n f =
     comp (pair (on_first (Product (Product c n) n) (iden a))
-           (pair (on_second a (on_first n (on_first n (iden c))))
-             (pair (on_second a (on_first n (on_second c (iden n)))) (on_second a (on_second (Product c n) (iden n)))))) f
+    (pair (on_second a (on_first n (on_first n (iden c))))
+    (pair (on_second a (on_first n (on_second c (iden n)))) (on_second a (on_second (Product c n) (iden n)))))) f
 
 abbrev pub regrouped : ℕ → Declared → Declared
 regrouped k f = regrouped_of (started_kind f) (context_kind f) (word_kind k) f
