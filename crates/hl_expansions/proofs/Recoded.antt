@@ -1,6 +1,5 @@
 -- What is encoded at one type and decoded at another of the same form is encoded there in the same core value.
-use Rattle.std.proofs.Common.{◌≡◌, Some, sym, ap, ◌∙◌, subst}
-use Rattle.hl_data.specs.declared.value.HlValue.{HlValue}
+use Rattle.std.proofs.Common.{◌≡◌, sym, ap, ◌∙◌, subst}
 use Rattle.hl_meaning.specs.Values.{encoded}
 use Rattle.hl_values.proofs.Coding.{sound_good}
 use Rattle.simplicity.specs.Types.{IsOf}
