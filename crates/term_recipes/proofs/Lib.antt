@@ -1,1 +1,4 @@
 -- The files of this crate's laws and answers to goals.
+pub mod Later
+pub mod Meets
+pub mod Tests

@@ -3,10 +3,11 @@ use Rattle.std.specs.Prelude.{ℕ, ◌<◌, List, length, map}
 use Rattle.std.specs.List.{All}
 use Rattle.simplicity.specs.Arrows.{target}
 use Rattle.simplicity.specs.Canon.{Declared}
-use Rattle.simplicity.specs.Makes.{iden, comp, pair, on_second, by_tag}
-use Rattle.simplicity.specs.Types.{Kind}
+use Rattle.simplicity.specs.Makes.{iden, unit, comp, pair, on_first, on_second, by_tag, only_left, only_right}
+use Rattle.simplicity.specs.Types.{Kind, One, Product}
 use Rattle.term_core.specs.declared.table_node.TermRow.{TermRow}
 use Rattle.term_core.specs.Terms.{term_at}
+use Rattle.hl_terms.specs.Translated.{true_term, false_term}
 
 -- the terms that ids mean, and that each id is in the table
 abbrev pub terms_at : List Kind → List TermRow → List ℕ → List Declared
@@ -15,14 +16,40 @@ terms_at kinds rows ids = map (term_at kinds rows) ids
 abbrev pub AreThere : List TermRow → List ℕ → Type 0
 AreThere rows ids = All (λ id. id < length rows) ids
 
+-- a value beside another one, and what comes after the two
+abbrev pub beside : Declared → Declared → Declared → Declared
+beside value other rest = comp (pair value other) rest
+
 -- a value bound before its scope `a`, in what comes after it
 abbrev pub bound_in : Declared → Kind → Declared → Declared
-bound_in value a rest = comp (pair value (iden a)) rest
+bound_in value a rest = beside value (iden a) rest
 
 -- a value whose result is dropped, and what comes after it
 abbrev pub followed_by : Declared → Declared → Declared
-followed_by value rest = comp (pair value rest) (on_second (target value) (iden (target rest)))
+followed_by value rest = beside value rest (on_second (target value) (iden (target rest)))
 
 -- a match: the value bound before its scope `a`, and one of two arms by its tag
 abbrev pub matched : Declared → (left right a : Kind) → Declared → Declared → Declared
 matched value left right a first second = bound_in value a (by_tag left right a first second)
+
+-- a value of a type `a` beside the unit value, before a test of the two
+abbrev pub tested_by : Declared → Kind → Declared → Declared
+tested_by value a test = beside value (unit a) test
+
+-- what a tag holds, beside the unit value
+abbrev pub held : Kind → Declared
+held k = on_first One (iden k)
+
+-- the tests: the right tag alone of a truth value, and what either tag holds, and failure at the other
+abbrev pub true_alone : Declared
+true_alone = only_right One One One (unit (Product One One))
+
+abbrev pub left_alone : Kind → Kind → Declared
+left_alone left right = only_left left right One (held left)
+
+abbrev pub right_alone : Kind → Kind → Declared
+right_alone left right = only_right left right One (held right)
+
+-- whether an option holds nothing
+abbrev pub none_test : Kind → Declared
+none_test item = by_tag One item One (true_term (Product One One)) (false_term (Product item One))

@@ -5,10 +5,11 @@ ghost use Rattle.simplicity.specs.Arrows.{IsTypedTerm};
 ghost use Rattle.simplicity.specs.Makes as make;
 ghost use Rattle.type_table.specs.Kinds.{kind_at, IsGrown};
 ghost use Rattle.term_core.specs.Terms.{term_at, StandsOver, MeansTerm, KeepsRows};
-ghost use Rattle.term_recipes.specs.Shapes.{bound_in, followed_by, matched};
+ghost use Rattle.term_recipes.specs.Shapes.{beside, bound_in, followed_by, matched};
 
 use std::alloc::AllocError;
 use term_core::{NodeId, TermTable};
+use term_makers::{add_by_tag, add_comp, add_iden, add_on_second, add_pair, arrow_of};
 use type_table::{TypeId, TypeTable};
 
 /// One term and then another, as a call of a term with its arguments.
@@ -28,8 +29,7 @@ pub fn add_called(
     ensures kept { KeepsRows terms.old terms.new }
     ensures stands { StandsOver types.now terms.new }
 {
-    let (_terms, _types, _arguments, _called) = (terms, types, arguments, called);
-    Err(AllocError)
+    add_comp(terms, types, arguments, called)
 }
 
 /// What two terms on one input give, as a pair.
@@ -50,8 +50,33 @@ pub fn add_paired(
     ensures kept { KeepsRows terms.old terms.new }
     ensures stands { StandsOver types.new terms.new }
 {
-    let (_terms, _types, _first, _second) = (terms, types, first, second);
-    Err(AllocError)
+    add_pair(terms, types, first, second)
+}
+
+/// What two terms on one input give, as a pair, before a third term.
+#[tactic(auto, using(term_core::proofs::Growth::standing_stays))]
+pub(crate) fn add_beside(
+    terms: &mut TermTable,
+    types: &mut TypeTable,
+    value: NodeId,
+    other: NodeId,
+    rest: NodeId,
+) -> Result<NodeId, AllocError>
+    requires stands { StandsOver types.old terms.old }
+    requires value { value < length terms.old }
+    requires other { other < length terms.old }
+    requires rest { rest < length terms.old }
+    requires typed { IsTypedTerm (beside (term_at types.old terms.old value)
+        (term_at types.old terms.old other) (term_at types.old terms.old rest)) }
+    ensures ok { IfOk result (λ id. MeansTerm types.new terms.new id
+        (beside (term_at types.old terms.old value) (term_at types.old terms.old other)
+        (term_at types.old terms.old rest))) }
+    ensures grown { IsGrown types.old types.new }
+    ensures kept { KeepsRows terms.old terms.new }
+    ensures stands { StandsOver types.new terms.new }
+{
+    let both = add_paired(terms, types, value, other)?;
+    add_called(terms, types, both, rest)
 }
 
 /// A value bound before its scope, whose type is `source`, and what comes after it, as a `let`.
@@ -75,8 +100,8 @@ pub fn add_bound(
     ensures kept { KeepsRows terms.old terms.new }
     ensures stands { StandsOver types.new terms.new }
 {
-    let (_terms, _types, _source, _value, _rest) = (terms, types, source, value, rest);
-    Err(AllocError)
+    let here = add_iden(terms, types, source)?;
+    add_beside(terms, types, value, here, rest)
 }
 
 /// A value that is dropped, and what comes after it in the same scope.
@@ -97,8 +122,11 @@ pub fn add_followed(
     ensures kept { KeepsRows terms.old terms.new }
     ensures stands { StandsOver types.new terms.new }
 {
-    let (_terms, _types, _value, _rest) = (terms, types, value, rest);
-    Err(AllocError)
+    let (_source, dropped) = arrow_of(terms, types, value);
+    let (_source, kind) = arrow_of(terms, types, rest);
+    let last = add_iden(terms, types, kind)?;
+    let second = add_on_second(terms, types, dropped, last)?;
+    add_beside(terms, types, value, rest, second)
 }
 
 /// A match of a value in a scope whose type is `source`: `first` where the value has the left tag,
@@ -131,7 +159,6 @@ pub fn add_matched(
     ensures kept { KeepsRows terms.old terms.new }
     ensures stands { StandsOver types.new terms.new }
 {
-    let (_terms, _types, _source, _value) = (terms, types, source, value);
-    let (_left, _right, _first, _second) = (left, right, first, second);
-    Err(AllocError)
+    let arms = add_by_tag(terms, types, left, right, source, first, second)?;
+    add_bound(terms, types, source, value, arms)
 }
