@@ -2,3 +2,5 @@
 pub mod Later
 pub mod Meets
 pub mod Tests
+pub mod Halved
+pub mod Blocks

@@ -1,9 +1,10 @@
 -- Several terms of a table by their ids, and the shapes of what constructs become that the definition of terms writes out in place.
-use Rattle.std.specs.Prelude.{ℕ, ◌<◌, List, length, map}
+use Rattle.std.specs.Prelude.{ℕ, ◌^◌, ◌<◌, nat_lt, List, [], ◌∷◌, length, map, if◌then◌else◌}
 use Rattle.std.specs.List.{All}
 use Rattle.simplicity.specs.Arrows.{target}
 use Rattle.simplicity.specs.Canon.{Declared}
-use Rattle.simplicity.specs.Makes.{iden, unit, comp, pair, on_first, on_second, by_tag, only_left, only_right}
+use Rattle.simplicity.specs.Makes.{iden, unit, comp, pair, on_first, on_second, by_tag, only_left, only_right, to_left, to_right, tuple}
+use Rattle.simplicity.specs.Tuples.{copies_kind}
 use Rattle.simplicity.specs.Types.{Kind, One, Product}
 use Rattle.term_core.specs.declared.table_node.TermRow.{TermRow}
 use Rattle.term_core.specs.Terms.{term_at}
@@ -53,3 +54,12 @@ right_alone left right = only_right left right One (held right)
 -- whether an option holds nothing
 abbrev pub none_test : Kind → Declared
 none_test item = by_tag One item One (true_term (Product One One)) (false_term (Product item One))
+
+-- how many of so many items go into the block of a level: as many as it holds, or none where they don't fill it
+abbrev pub in_block : (level count : ℕ) → ℕ
+in_block level count = if nat_lt count (2 ^ level) then 0 else 2 ^ level
+
+-- the block of a level, of items of a type on inputs of a type `a`: none, or its items
+abbrev pub block_term : Kind → Kind → ℕ → List Declared → Declared
+block_term a item level [] = to_left (copies_kind (2 ^ level) item) (unit a)
+block_term a item level (t ∷ ts) = to_right One (tuple a (t ∷ ts))

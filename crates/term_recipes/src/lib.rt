@@ -5,6 +5,7 @@
 mod joined;
 mod listed;
 mod paths;
+mod sides;
 mod tested;
 mod tuples;
 mod words;
@@ -12,6 +13,7 @@ mod words;
 pub use joined::{add_bound, add_called, add_followed, add_matched, add_paired};
 pub use listed::{add_list, list_level};
 pub use paths::add_path;
+pub use sides::{add_nothing, add_some};
 pub use tested::{add_asserted, add_none_tested, add_unwrapped_left, add_unwrapped_right};
 pub use tuples::add_tuple;
 pub use words::{add_false, add_true, add_word, add_word_value};

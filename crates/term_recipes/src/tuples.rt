@@ -7,8 +7,10 @@ ghost use Rattle.type_table.specs.Kinds.{kind_at, IsGrown};
 ghost use Rattle.term_core.specs.Terms.{StandsOver, MeansTerm, KeepsRows};
 ghost use Rattle.term_recipes.specs.Shapes.{terms_at, AreThere};
 
+use crate::joined::add_paired;
 use std::alloc::AllocError;
 use term_core::{NodeId, TermTable};
+use term_makers::add_unit;
 use type_table::{TypeId, TypeTable};
 
 /// The tuple of parts, or the array of items, by halves, on inputs of a type.
@@ -29,6 +31,14 @@ pub fn add_tuple(
     ensures kept { KeepsRows terms.old terms.new }
     ensures stands { StandsOver types.new terms.new }
 {
-    let (_terms, _types, _source, _parts) = (terms, types, source, parts);
-    Err(AllocError)
+    if parts.len() == 0 {
+        return add_unit(terms, types, source);
+    }
+    if parts.len() == 1 {
+        return Ok(parts[0]);
+    }
+    let (front, back) = parts.split_at(parts.len() / 2);
+    let first = add_tuple(terms, types, source, front)?;
+    let rest = add_tuple(terms, types, source, back)?;
+    add_paired(terms, types, first, rest)
 }
