@@ -1,8 +1,11 @@
 -- Lists by blocks, in tables that grow meanwhile.
-use Rattle.std.proofs.Common.{◌≡◌, ℕ, zero, suc, ◌+◌, ◌-◌, ◌*◌, ◌/◌, ◌^◌, ◌<◌, ◌≤◌, Bool, true, false, nat_lt, List, [], ◌∷◌, length, map, take, drop, refl, sym, ap, ◌∙◌, subst, arith, if◌then◌else◌}
+use Rattle.std.proofs.Common.{◌≡◌, ℕ, zero, suc, ◌+◌, ◌-◌, ◌*◌, ◌/◌, ◌^◌, ◌<◌, ◌≤◌, Bool, true, false, nat_lt, List, [], ◌∷◌, length, map, take, drop, refl, sym, ap, ◌∙◌, subst, arith, if◌then◌else◌, Result, Ok, Err}
+use Rattle.std.specs.Prelude.{IfOk}
+use Rattle.std.specs.declared.alloc.AllocError.{AllocError}
 use Rattle.std.proofs.lemmas.Bool.{ltb-true, ltb-false}
 use Rattle.std.proofs.lemmas.List.{length-map}
 use Rattle.std.proofs.Math.Nat.{pow-succ'}
+use Rattle.std.proofs.lemmas.Nat.{pow_pos}
 use Rattle.simplicity.specs.Arrows.{IsTypedTerm}
 use Rattle.simplicity.specs.Canon.{Declared}
 use Rattle.simplicity.specs.Makes.{unit, pair, to_left, to_right, tuple}
@@ -21,7 +24,7 @@ use Rattle.term_recipes.proofs.Halved.{terms_later}
 pub copies_double : (j : ℕ) (k : Kind) → copies_kind (2 ^ suc j) k ≡ Product (copies_kind (2 ^ j) k) (copies_kind (2 ^ j) k)
 copies_double j k =
     let twice : 2 ^ suc j ≡ 2 * 2 ^ j = pow-succ' 2 j in
-    let some : 0 < 2 ^ j = omega arith in
+    let some : 0 < 2 ^ j = pow_pos j in
     let half : 2 ^ suc j / 2 ≡ 2 ^ j = omega arith in
     let rest : 2 ^ suc j - 2 ^ suc j / 2 ≡ 2 ^ j = omega arith in
     copies_pair (2 ^ suc j) k (omega arith) ∙ ap (λ n. Product (copies_kind n k) (copies_kind (2 ^ suc j - 2 ^ suc j / 2) k)) half ∙ ap (λ n. Product (copies_kind (2 ^ j) k) (copies_kind n k)) rest
@@ -31,6 +34,11 @@ pub block_doubled : (kinds new : List Kind) (level half id : ℕ) (k : Kind) →
 block_doubled kinds new level half id k above h m =
     let up : suc (level - 1) ≡ level = omega arith in
     record { within = m.within; is = m.is ∙ ap (λ j. Product j j) h.is ∙ sym (copies_double (level - 1) k) ∙ ap (λ n. copies_kind (2 ^ n) k) up }
+
+pub doubled_ok : (kinds new : List Kind) (level half : ℕ) (k : Kind) (r : Result ℕ AllocError) → 0 < level → Means kinds half (copies_kind (2 ^ (level - 1)) k) →
+    IfOk r (λ id. Means new id (Product (kind_at kinds half) (kind_at kinds half))) → IfOk r (λ id. Means new id (copies_kind (2 ^ level) k))
+doubled_ok kinds new level half k (Ok id) above h m = block_doubled kinds new level half id k above h m
+doubled_ok kinds new level half k (Err e) above h m = tt
 
 -- a block that is filled has an item
 filled : (a item : Kind) (level n : ℕ) (ts : List Declared) → 0 < n → n ≤ length ts → block_term a item level (take n ts) ≡ to_right One (tuple a (take n ts))
@@ -51,7 +59,7 @@ list_next a item j ts = by_size (nat_lt (length ts) (2 ^ suc j)) refl
     by_size true e = refl
     by_size false e =
         let more : 2 ^ suc j ≤ length ts = ltb-false (length ts) (2 ^ suc j) e in
-        let some : 0 < 2 ^ suc j = omega arith in
+        let some : 0 < 2 ^ suc j = pow_pos (suc j) in
         ap (λ t. pair t (list_term a item j (drop (2 ^ suc j) ts))) (sym (filled a item (suc j) (2 ^ suc j) ts some more))
 
 module _ (kinds : List Kind) (rows : List TermRow) (a item : Kind) (level size : ℕ) (ids front back : List ℕ) (above : 0 < level) (size_is : size ≡ in_block level (length ids)) (front_is : front ≡ take size ids) (back_is : back ≡ drop size ids) where

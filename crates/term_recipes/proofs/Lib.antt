@@ -4,3 +4,4 @@ pub mod Meets
 pub mod Tests
 pub mod Halved
 pub mod Blocks
+pub mod Along

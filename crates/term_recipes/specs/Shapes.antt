@@ -3,11 +3,12 @@ use Rattle.std.specs.Prelude.{ℕ, ◌^◌, ◌<◌, nat_lt, List, [], ◌∷◌
 use Rattle.std.specs.List.{All}
 use Rattle.simplicity.specs.Arrows.{target}
 use Rattle.simplicity.specs.Canon.{Declared}
-use Rattle.simplicity.specs.Makes.{iden, unit, comp, pair, on_first, on_second, by_tag, only_left, only_right, to_left, to_right, tuple}
+use Rattle.simplicity.specs.Makes.{first_of, second_of, iden, unit, comp, pair, on_first, on_second, by_tag, only_left, only_right, to_left, to_right, tuple}
 use Rattle.simplicity.specs.Tuples.{copies_kind}
 use Rattle.simplicity.specs.Types.{Kind, One, Product}
 use Rattle.term_core.specs.declared.table_node.TermRow.{TermRow}
 use Rattle.term_core.specs.Terms.{term_at}
+use Rattle.hl_terms.specs.Paths.{Step, ToFirst, ToSecond}
 use Rattle.hl_terms.specs.Translated.{true_term, false_term}
 
 -- the terms that ids mean, and that each id is in the table
@@ -63,3 +64,21 @@ in_block level count = if nat_lt count (2 ^ level) then 0 else 2 ^ level
 abbrev pub block_term : Kind → Kind → ℕ → List Declared → Declared
 block_term a item level [] = to_left (copies_kind (2 ^ level) item) (unit a)
 block_term a item level (t ∷ ts) = to_right One (tuple a (t ∷ ts))
+
+-- the part of a type that a step leads to, and that steps lead to
+abbrev pub part_at : Kind → Step → Kind
+part_at k ToFirst = first_of k
+part_at k ToSecond = second_of k
+
+abbrev pub end_of : Kind → List Step → Kind
+end_of k [] = k
+end_of k (s ∷ ss) = end_of (part_at k s) ss
+
+-- a term on the part of a type that a step leads to, and that steps lead to
+abbrev pub on_part : Kind → Step → Declared → Declared
+on_part k ToFirst t = on_first (second_of k) t
+on_part k ToSecond t = on_second (first_of k) t
+
+abbrev pub along : Kind → List Step → Declared → Declared
+along k [] t = t
+along k (s ∷ ss) t = on_part k s (along (part_at k s) ss t)
