@@ -1,9 +1,8 @@
 -- The tests of a tag, once all that they are made of is in the tables.
-use Rattle.std.proofs.Common.{◌≡◌, ℕ, ◌<◌, List, length, refl, sym, ap, ◌∙◌}
+use Rattle.std.proofs.Common.{◌≡◌, ℕ, ◌<◌, List, length, sym, ap, ◌∙◌}
 use Rattle.simplicity.specs.Arrows.{source, target}
-use Rattle.simplicity.specs.Canon.{Declared}
 use Rattle.simplicity.specs.Makes.{by_tag, only_left, only_right}
-use Rattle.simplicity.specs.Types.{Kind, One, Sum, Product}
+use Rattle.simplicity.specs.Types.{Kind, One, Product}
 use Rattle.type_table.specs.Kinds.{kind_at, Means, IsGrown}
 use Rattle.type_table.proofs.Growth.{grown_through}
 use Rattle.term_core.specs.declared.table_node.TermRow.{TermRow}

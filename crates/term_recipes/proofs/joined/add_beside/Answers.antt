@@ -1,7 +1,5 @@
 -- Answers to the goals of `add_beside`: what two terms on one input give, as a pair, before a third term.
-use Rattle.std.proofs.Common.{◌≡◌}
 use Rattle.simplicity.specs.Makes.{comp, pair}
-use Rattle.simplicity.specs.Canon.{Declared}
 use Rattle.term_core.specs.Terms.{term_at}
 use Rattle.term_recipes.specs.Shapes.{beside}
 use Rattle.term_recipes.proofs.Later.{term_later, comp_same, made_is, typed_same}

@@ -1,6 +1,5 @@
 -- Answers to the goals of `block_type`: the type of 2 ^ level items of a type.
 use Rattle.std.proofs.Common.{◌<◌, arith}
-use Rattle.std.specs.Prelude.{IfOk}
 use Rattle.type_table.specs.Kinds.{kind_at}
 use Rattle.term_recipes.proofs.Blocks.{doubled_ok}
 use Rattle.term_recipes.proofs.listed.+block_type.Goals as goal

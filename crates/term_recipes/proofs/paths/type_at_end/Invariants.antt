@@ -1,5 +1,5 @@
 -- Invariants of `type_at_end` in `paths`.
-use Rattle.std.proofs.Common.{length, map, drop}
+use Rattle.std.proofs.Common.{map, drop}
 use Rattle.layout_laws.specs.Scopes.{step_of}
 use Rattle.type_table.specs.Kinds.{kind_at}
 use Rattle.term_recipes.specs.Shapes.{end_of}

@@ -1,8 +1,7 @@
 -- Answers to the goals of `add_tuple`: the tuple of parts, or the array of items, by halves.
-use Rattle.std.proofs.Common.{◌≡◌, ◌/◌, ◌<◌, length, sym, arith}
+use Rattle.std.proofs.Common.{◌/◌, ◌<◌, length, arith}
 use Rattle.simplicity.specs.Makes.{pair, tuple}
 use Rattle.type_table.specs.Kinds.{kind_at}
-use Rattle.type_table.proofs.Growth.{grown_length}
 use Rattle.term_core.specs.Terms.{term_at}
 use Rattle.term_recipes.specs.Shapes.{terms_at}
 use Rattle.term_recipes.proofs.Halved.{back_typed, front_typed, halves_made, there_drop, there_later, there_take, tuple_later}

@@ -1,5 +1,5 @@
 -- Answers to the goals of `add_word`: the word alone, from the unit type.
-use Rattle.std.proofs.Common.{ap, ◌∙◌, sym}
+use Rattle.std.proofs.Common.{ap, ◌∙◌}
 use Rattle.simplicity.specs.Types.{word_kind}
 use Rattle.simplicity.specs.Widths.{level_of, word_of_width}
 use Rattle.type_table.specs.Kinds.{Means}
