@@ -1,0 +1,9 @@
+-- Answers to the goals of `write_tag`.
+use Rattle.value_cells.proofs.Parts.{tag_first, blank_next}
+use Rattle.value_cells.proofs.write.write_tag.Goals as goal
+
+pub loop-done-init : goal.loop-done-init
+loop-done-init c = tag_first _ _ c.args.tag c.in_ok-push.ensures.items
+
+pub loop-done-preserved : goal.loop-done-preserved
+loop-done-preserved c = ?
