@@ -1,5 +1,5 @@
 -- The parts of a value that are left to write.
-use Rattle.std.proofs.Common.{◌≡◌, ℕ, suc, ◌+◌, ◌*◌, ◌<◌, ◌≤◌, Bool, true, false, List, [], ◌∷◌, ◌++◌, length, refl, sym, ap, subst, ◌∙◌, arith, append_assoc}
+use Rattle.std.proofs.Common.{◌≡◌, ℕ, ◌+◌, ◌<◌, ◌≤◌, Bool, true, false, List, [], ◌∷◌, ◌++◌, length, refl, sym, ap, subst, ◌∙◌, arith, append_assoc}
 use Rattle.std.proofs.lemmas.List.{append-nil, map_push, replicate_more}
 use Rattle.simplicity.specs.Types.{Kind, Sum, Product, Value, UnitValue, Inl, Inr, Pair, IsOf, weight, pad_left, pad_right}
 use Rattle.simplicity.specs.Limits.{most_weight}
@@ -120,7 +120,7 @@ module _ (kinds : List Kind) where
       let is : kind_at kinds p.kind ≡ Product a b = has.is in
       let heavy : weight (Product a b) ≤ most_weight = subst (λ (k : Kind). weight k ≤ most_weight) is part.light in
       let of : IsOf (Pair (value_of first.value.now) (value_of second.value.now)) (Product a b) =
-          subst (λ (v : Value). IsOf v (Product a b)) value (subst (λ (k : Kind). IsOf (value_of p.value.now) k) is part.of) in
+      subst (λ (v : Value). IsOf v (Product a b)) value (subst (λ (k : Kind). IsOf (value_of p.value.now) k) is part.of) in
       let same : kind_at kinds first.kind ≡ a = ap (kind_at kinds) left in
       let like : kind_at kinds second.kind ≡ b = ap (kind_at kinds) right in
       record {

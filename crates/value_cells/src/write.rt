@@ -66,19 +66,31 @@ fn write_part<'a>(
         Shape::Sum(left, right) => match part.value {
             CoreValue::Left(inner) => {
                 write_tag(cells, Cell::Zero, pads(left, right, types).0)?;
-                parts.push(Part { value: inner, kind: left })?;
+                parts.push(Part {
+                    value: inner,
+                    kind: left,
+                })?;
             }
             CoreValue::Right(inner) => {
                 write_tag(cells, Cell::One, pads(left, right, types).1)?;
-                parts.push(Part { value: inner, kind: right })?;
+                parts.push(Part {
+                    value: inner,
+                    kind: right,
+                })?;
             }
             CoreValue::Unit => unreachable!(),
             CoreValue::Pair(_, _) => unreachable!(),
         },
         Shape::Product(left, right) => match part.value {
             CoreValue::Pair(first, second) => {
-                parts.push(Part { value: second, kind: right })?;
-                parts.push(Part { value: first, kind: left })?;
+                parts.push(Part {
+                    value: second,
+                    kind: right,
+                })?;
+                parts.push(Part {
+                    value: first,
+                    kind: left,
+                })?;
             }
             CoreValue::Unit => unreachable!(),
             CoreValue::Left(_) => unreachable!(),

@@ -14,7 +14,12 @@ pub write_part-requires-clause-parts : goal.write_part-requires-clause-parts
 write_part-requires-clause-parts c = (popped c.args.types.now c.loop-part.parts.items c.pop.new.self.items c.in-Some.part c.in-Some.ensures.items c.loop-part.invariant.parts).0
 
 pub loop-part-smaller : goal.loop-part-smaller
-loop-part-smaller c = omega (arith, load_more c.pop.new.self.items c.loop-part.parts.items c.in-Some.part c.in-Some.ensures.items, ?)
+loop-part-smaller c = omega (arith, load_more c.pop.new.self.items c.loop-part.parts.items c.in-Some.part c.in-Some.ensures.items, c.in_ok-write_part.ensures.less)
 
 pub loop-part-preserved : goal.loop-part-preserved
-loop-part-preserved c = ?
+loop-part-preserved c = record {
+  parts = c.in_ok-write_part.ensures.parts;
+  cells = next_cells c.args.types.now (cells_of c.loop-part.cells.items) (cells_of c.write_part.new.cells.items)
+      (cells_of c.args.cells.now.items ++ spec.cells (kind_at c.args.types.now c.args.kind) (value_of c.args.value.now)) c.loop-part.parts.items c.pop.new.self.items
+      c.write_part.new.parts.items c.in-Some.part c.in-Some.ensures.items c.loop-part.invariant.cells c.in_ok-write_part.ensures.cells;
+}

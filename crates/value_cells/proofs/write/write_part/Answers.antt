@@ -54,10 +54,10 @@ returns-in_ok-push-in-Pair-value-2-clause-cells c =
     let first : Part = record { value = c.deref-in-Pair-value-2.result; kind = c.in-Product.left } in
     let second : Part = record { value = c.deref-in-Pair-value.result; kind = c.in-Product.right } in
     let made : IsPaired c.args.types.now c.args.part first second =
-        as_pair c.args.types.now c.args.part first second c.in-Product.left c.in-Product.right c.requires.part c.in-Product.ensures.shape (omega (arith, c.in-Product.ensures.shape.parts, c.requires.part.there))
-        (omega (arith, c.in-Product.ensures.shape.parts, c.requires.part.there))
-        (ap value_of c.in-Pair-value.is ∙ ap (λ (v : CoreValue). Pair (value_of v) (value_of c.in-Pair-value.second.value)) (sym c.deref-in-Pair-value-2.ensures)
-        ∙ ap (λ (v : CoreValue). Pair (value_of c.deref-in-Pair-value-2.result.now) (value_of v)) (sym c.deref-in-Pair-value.ensures)) refl refl in
+    as_pair c.args.types.now c.args.part first second c.in-Product.left c.in-Product.right c.requires.part c.in-Product.ensures.shape (omega (arith, c.in-Product.ensures.shape.parts, c.requires.part.there))
+    (omega (arith, c.in-Product.ensures.shape.parts, c.requires.part.there))
+    (ap value_of c.in-Pair-value.is ∙ ap (λ (v : CoreValue). Pair (value_of v) (value_of c.in-Pair-value.second.value)) (sym c.deref-in-Pair-value-2.ensures)
+    ∙ ap (λ (v : CoreValue). Pair (value_of c.deref-in-Pair-value-2.result.now) (value_of v)) (sym c.deref-in-Pair-value.ensures)) refl refl in
     paired_cells c.args.types.now (cells_of c.args.cells.now.items) c.args.part first second c.args.parts.now.items c.push-in-Pair-value.new.self.items c.push-in-Pair-value-2.new.self.items made.cells
     c.in_ok-push-in-Pair-value.ensures.items c.in_ok-push-in-Pair-value-2.ensures.items
 
@@ -66,10 +66,10 @@ returns-in_ok-push-in-Pair-value-2-clause-parts c =
     let first : Part = record { value = c.deref-in-Pair-value-2.result; kind = c.in-Product.left } in
     let second : Part = record { value = c.deref-in-Pair-value.result; kind = c.in-Product.right } in
     let made : IsPaired c.args.types.now c.args.part first second =
-        as_pair c.args.types.now c.args.part first second c.in-Product.left c.in-Product.right c.requires.part c.in-Product.ensures.shape (omega (arith, c.in-Product.ensures.shape.parts, c.requires.part.there))
-        (omega (arith, c.in-Product.ensures.shape.parts, c.requires.part.there))
-        (ap value_of c.in-Pair-value.is ∙ ap (λ (v : CoreValue). Pair (value_of v) (value_of c.in-Pair-value.second.value)) (sym c.deref-in-Pair-value-2.ensures)
-        ∙ ap (λ (v : CoreValue). Pair (value_of c.deref-in-Pair-value-2.result.now) (value_of v)) (sym c.deref-in-Pair-value.ensures)) refl refl in
+    as_pair c.args.types.now c.args.part first second c.in-Product.left c.in-Product.right c.requires.part c.in-Product.ensures.shape (omega (arith, c.in-Product.ensures.shape.parts, c.requires.part.there))
+    (omega (arith, c.in-Product.ensures.shape.parts, c.requires.part.there))
+    (ap value_of c.in-Pair-value.is ∙ ap (λ (v : CoreValue). Pair (value_of v) (value_of c.in-Pair-value.second.value)) (sym c.deref-in-Pair-value-2.ensures)
+    ∙ ap (λ (v : CoreValue). Pair (value_of c.deref-in-Pair-value-2.result.now) (value_of v)) (sym c.deref-in-Pair-value.ensures)) refl refl in
     one_more c.args.types.now c.push-in-Pair-value.new.self.items c.push-in-Pair-value-2.new.self.items first c.in_ok-push-in-Pair-value-2.ensures.items
     (one_more c.args.types.now c.args.parts.now.items c.push-in-Pair-value.new.self.items second c.in_ok-push-in-Pair-value.ensures.items c.requires.parts made.other) made.one
 
@@ -78,9 +78,13 @@ returns-in_ok-push-in-Pair-value-2-clause-less c =
     let first : Part = record { value = c.deref-in-Pair-value-2.result; kind = c.in-Product.left } in
     let second : Part = record { value = c.deref-in-Pair-value.result; kind = c.in-Product.right } in
     let made : IsPaired c.args.types.now c.args.part first second =
-        as_pair c.args.types.now c.args.part first second c.in-Product.left c.in-Product.right c.requires.part c.in-Product.ensures.shape (omega (arith, c.in-Product.ensures.shape.parts, c.requires.part.there))
-        (omega (arith, c.in-Product.ensures.shape.parts, c.requires.part.there))
-        (ap value_of c.in-Pair-value.is ∙ ap (λ (v : CoreValue). Pair (value_of v) (value_of c.in-Pair-value.second.value)) (sym c.deref-in-Pair-value-2.ensures)
-        ∙ ap (λ (v : CoreValue). Pair (value_of c.deref-in-Pair-value-2.result.now) (value_of v)) (sym c.deref-in-Pair-value.ensures)) refl refl in
-    omega (arith, made.less, load_more c.args.parts.now.items c.push-in-Pair-value.new.self.items second c.in_ok-push-in-Pair-value.ensures.items,
-    load_more c.push-in-Pair-value.new.self.items c.push-in-Pair-value-2.new.self.items first c.in_ok-push-in-Pair-value-2.ensures.items)
+    as_pair c.args.types.now c.args.part first second c.in-Product.left c.in-Product.right c.requires.part c.in-Product.ensures.shape (omega (arith, c.in-Product.ensures.shape.parts, c.requires.part.there))
+    (omega (arith, c.in-Product.ensures.shape.parts, c.requires.part.there))
+    (ap value_of c.in-Pair-value.is ∙ ap (λ (v : CoreValue). Pair (value_of v) (value_of c.in-Pair-value.second.value)) (sym c.deref-in-Pair-value-2.ensures)
+    ∙ ap (λ (v : CoreValue). Pair (value_of c.deref-in-Pair-value-2.result.now) (value_of v)) (sym c.deref-in-Pair-value.ensures)) refl refl in
+    omega (
+      arith,
+      made.less,
+      load_more c.args.parts.now.items c.push-in-Pair-value.new.self.items second c.in_ok-push-in-Pair-value.ensures.items,
+      load_more c.push-in-Pair-value.new.self.items c.push-in-Pair-value-2.new.self.items first c.in_ok-push-in-Pair-value-2.ensures.items,
+    )
