@@ -8,3 +8,4 @@ mod writing;
 
 pub use bound::Bounds;
 pub use whole::bounds;
+pub use writing::pads;

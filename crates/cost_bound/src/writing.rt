@@ -52,7 +52,7 @@ fn work_of(works: &[u64], id: TypeId, types: &TypeTable) -> u64
 }
 
 /// How many cells stay undefined after the tag of the left and of the right side of a sum.
-pub(crate) fn pads(left: TypeId, right: TypeId, types: &TypeTable) -> (u64, u64)
+pub fn pads(left: TypeId, right: TypeId, types: &TypeTable) -> (u64, u64)
     requires left { left < length types.now }
     requires right { right < length types.now }
     ensures left { weight (kind_at types.now left) + weight (kind_at types.now right) ≤ most_weight

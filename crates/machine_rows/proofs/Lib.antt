@@ -1,0 +1,1 @@
+-- The files of this crate's laws.
