@@ -4,44 +4,54 @@ ghost use Rattle.std.specs.Prelude.{◌<◌, ◌≤◌, length};
 
 use bit_codec::{CodecRefusal, CompactRefusal, read_compact, read_program, write_compact};
 use cell_bits::{BitReader, BitRefusal, BitWriter};
-use std::alloc::Global;
+use std::alloc::{AllocError, Global};
 use std::test::Fail;
 use type_table::{TypeId, TypeTable};
 
+/// Bytes that are no program, and what they are refused for.
+static HOSTILE: [(&[u8], CodecRefusal); 11] = [
+    (&[], CodecRefusal::EndOfBits { at: 0 }),
+    (&[0x00], CodecRefusal::BadDistance { node: 0 }),
+    (&[0x0C], CodecRefusal::Disconnect { at: 1 }),
+    (&[0x2C], CodecRefusal::Reserved { at: 1 }),
+    (&[0x60], CodecRefusal::JetCode { at: 1 }),
+    (&[0x80], CodecRefusal::EndOfBits { at: 8 }),
+    (&[0xF1, 0x00], CodecRefusal::NaturalTooLarge { at: 0 }),
+    (&[0xF0, 0x40, 0x00, 0x01], CodecRefusal::TooManyNodes),
+    (&[0x25], CodecRefusal::BadPadding { at: 7 }),
+    (&[0x24, 0x00], CodecRefusal::BadPadding { at: 8 }),
+    (&[0x5A, 0x80], CodecRefusal::WordTooWide { node: 0 }),
+];
+
+/// The same of a byte, then the 32 zeros of a hidden side, and then these bytes.
+static HIDDEN: [(u8, &[u8], CodecRefusal); 3] = [
+    (0x30, &[], CodecRefusal::HiddenRoot),
+    (0x8C, &[0x10], CodecRefusal::BothHidden { node: 1 }),
+    (0x8C, &[0x60], CodecRefusal::HiddenPlace { node: 1 }),
+];
+
+/// What bytes are read as: how many nodes, or the refusal.
+fn nodes_of(alloc: Global, bytes: &[u8]) -> Result<usize, CodecRefusal> {
+    read_program(alloc, bytes).map(|nodes| nodes.len())
+}
+
+/// A byte, 32 zeros, and further bytes.
+fn around_zeros(alloc: Global, first: u8, last: &[u8]) -> Result<Vec<u8>, AllocError> {
+    let mut bytes = Vec::new(alloc);
+    bytes.push(first)?;
+    bytes.extend_from_slice(&[0; 32])?;
+    bytes.extend_from_slice(last)?;
+    Ok(bytes)
+}
+
 #[test]
 fn refuses_hostile_programs(rt: HostRuntime) -> Result<(), Fail> {
-    let rows: [(&[u8], CodecRefusal); 11] = [
-        (&[], CodecRefusal::EndOfBits { at: 0 }),
-        (&[0x00], CodecRefusal::BadDistance { node: 0 }),
-        (&[0x0C], CodecRefusal::Disconnect { at: 1 }),
-        (&[0x2C], CodecRefusal::Reserved { at: 1 }),
-        (&[0x60], CodecRefusal::JetCode { at: 1 }),
-        (&[0x80], CodecRefusal::EndOfBits { at: 8 }),
-        (&[0xF1, 0x00], CodecRefusal::NaturalTooLarge { at: 0 }),
-        (&[0xF0, 0x40, 0x00, 0x01], CodecRefusal::TooManyNodes),
-        (&[0x25], CodecRefusal::BadPadding { at: 7 }),
-        (&[0x24, 0x00], CodecRefusal::BadPadding { at: 8 }),
-        (&[0x5A, 0x80], CodecRefusal::WordTooWide { node: 0 }),
-    ];
-    for (bytes, want) in rows {
-        let answer = read_program(rt.alloc(), bytes).map(|nodes| nodes.len());
-        assert_eq!(rt; answer, Err(want));
+    for (bytes, want) in HOSTILE.iter() {
+        assert_eq!(rt; nodes_of(rt.alloc(), bytes), Err(*want));
     }
-    for (first, last, want) in [
-        (0x30, None, CodecRefusal::HiddenRoot),
-        (0x8C, Some(0x10), CodecRefusal::BothHidden { node: 1 }),
-        (0x8C, Some(0x60), CodecRefusal::HiddenPlace { node: 1 }),
-    ] {
-        let mut bytes = Vec::new(rt.alloc());
-        bytes.push(first)?;
-        for _ in 0..32 {
-            bytes.push(0)?;
-        }
-        if let Some(last) = last {
-            bytes.push(last)?;
-        }
-        let answer = read_program(rt.alloc(), bytes.as_slice()).map(|nodes| nodes.len());
-        assert_eq!(rt; answer, Err(want));
+    for (first, last, want) in HIDDEN.iter() {
+        let bytes = around_zeros(rt.alloc(), *first, last)?;
+        assert_eq!(rt; nodes_of(rt.alloc(), bytes.as_slice()), Err(*want));
     }
     Ok(())
 }
@@ -91,6 +101,19 @@ fn reads_as(
     }
 }
 
+/// Bytes, how many bits to pass over, and what two options of a byte are read as from there: how many bits the value
+/// has, with the bytes that it is written as, or the place where the bits end.
+static CODES: [(&[u8], u32, Result<(u128, &[u8]), u128>); 8] = [
+    (&[], 0, Err(0)),
+    (&[0xAD], 0, Err(8)),
+    (&[0xAD, 0x00], 0, Ok((10, &[0xAD, 0x00]))),
+    (&[0xAD, 0x56], 0, Err(16)),
+    (&[0xAD, 0x56, 0xBF], 0, Ok((18, &[0xAD, 0x56, 0x80]))),
+    (&[0x56], 1, Err(8)),
+    (&[0x56, 0x80], 1, Ok((10, &[0xAD, 0x00]))),
+    (&[0xC7], 2, Ok((2, &[0x00]))),
+];
+
 #[test]
 #[tactic(auto, using(type_table::proofs::Growth::grown_length))]
 fn reads_and_writes_compact_codes(rt: HostRuntime) -> Result<(), Fail> {
@@ -100,19 +123,9 @@ fn reads_and_writes_compact_codes(rt: HostRuntime) -> Result<(), Fail> {
     let byte = types.word(8)?;
     let option = types.sum(one, byte)?;
     let pair = types.product(option, option)?;
-    let rows: [(&[u8], u32, Result<(u128, &[u8]), u128>); 8] = [
-        (&[], 0, Err(0)),
-        (&[0xAD], 0, Err(8)),
-        (&[0xAD, 0x00], 0, Ok((10, &[0xAD, 0x00]))),
-        (&[0xAD, 0x56], 0, Err(16)),
-        (&[0xAD, 0x56, 0xBF], 0, Ok((18, &[0xAD, 0x56, 0x80]))),
-        (&[0x56], 1, Err(8)),
-        (&[0x56, 0x80], 1, Ok((10, &[0xAD, 0x00]))),
-        (&[0xC7], 2, Ok((2, &[0x00]))),
-    ];
-    for (bytes, skipped, want) in rows {
-        if skipped <= 64 {
-            assert!(rt; reads_as(rt.alloc(), &types, pair, bytes, skipped, want)?);
+    for (bytes, skipped, want) in CODES.iter() {
+        if *skipped <= 64 {
+            assert!(rt; reads_as(rt.alloc(), &types, pair, bytes, *skipped, *want)?);
         }
     }
     assert!(rt; reads_as(rt.alloc(), &types, one, &[], 0, Ok((0, &[])))?);

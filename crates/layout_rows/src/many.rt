@@ -55,19 +55,20 @@ fn is_taken_back(alloc: Global, names: &[Pattern], kind: &HlType) -> Result<bool
 }
 
 #[test]
-fn keeps_and_takes_back(rt: HostRuntime) -> Result<(), Fail> {
+fn keeps_apart(rt: HostRuntime) -> Result<(), Fail> {
     let kind = HlType::Bool;
     let names = patterns(rt.alloc(), &[Part::Name("x"), Part::Name("w")])?;
     let bound = witnesses(rt.alloc(), &["x", "w", "v"])?;
-    expect(
-        are_apart(rt.alloc(), names.as_slice(), &bound, &kind)?,
-        "witnesses",
-    )?;
+    let holds = are_apart(rt.alloc(), names.as_slice(), &bound, &kind)?;
+    expect(holds, "witnesses")
+}
+
+#[test]
+fn takes_back(rt: HostRuntime) -> Result<(), Fail> {
+    let kind = HlType::Bool;
     let names = patterns(rt.alloc(), &[Part::Name("x"), Part::Name("y")])?;
-    expect(
-        is_taken_back(rt.alloc(), names.as_slice(), &kind)?,
-        "taken back",
-    )
+    let holds = is_taken_back(rt.alloc(), names.as_slice(), &kind)?;
+    expect(holds, "taken back")
 }
 
 /// How long the path of a name is after the first of two patterns begins the scope and the second is bound so many
