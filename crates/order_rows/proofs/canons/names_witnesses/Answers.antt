@@ -1,6 +1,6 @@
 -- Answers to the goals of `names_witnesses`: two witnesses of one arrow, of which the term takes that of
 -- the later row first.
-use Rattle.std.proofs.Common.{◌≡◌, refl, ap, sym, subst, ◌∙◌, ℕ, ◌<◌, length, arith}
+use Rattle.std.proofs.Common.{◌≡◌, refl, ◌<◌, arith}
 use Rattle.simplicity.specs.Types.{One}
 use Rattle.term_core.proofs.Follow.{witness_follows, comp_follows}
 use Rattle.term_core.proofs.Growth.{means_kept}
