@@ -283,26 +283,40 @@ fn reordered(
     }
 }
 
-/// Whether a row's list is answered as the row has it.
-#[tactic(auto, using(type_table::proofs::Growth::grown_length))]
-fn is_answered(alloc: Global, row: &Row) -> Result<bool, AllocError> {
-    let nodes = list(alloc, row.nodes)?;
-    if !has_root(&nodes) || check_order(alloc, &nodes) != answer(row.order) {
-        return Ok(false);
-    }
+/// Whether a row's list is shared under its least typing as the row has it.
+fn is_shared_so(alloc: Global, list: &NodeList, row: &Row) -> Result<bool, AllocError>
+    requires { HasRoot list.now }
+{
     let mut types = TypeTable::new(alloc);
     let ends = ends(row.ends, &mut types)?;
-    if sharing(alloc, &nodes, ends, &mut types) != answer(row.shared) {
+    Ok(sharing(alloc, list, ends, &mut types) == answer(row.shared))
+}
+
+/// Whether a row's list is reordered as the row has it.
+fn is_reordered_so(alloc: Global, list: &NodeList, row: &Row) -> Result<bool, AllocError>
+    requires { HasRoot list.now }
+{
+    let mut types = TypeTable::new(alloc);
+    let ends = ends(row.ends, &mut types)?;
+    let Ok(reordered) = reordered(alloc, list, ends, &mut types) else {
         return Ok(false);
-    }
-    Ok(match reordered(alloc, &nodes, ends, &mut types) {
-        Ok(list) => {
-            is_written(&list.nodes, row.reordered)
-                && are_written(list.places.as_slice(), row.places)
-                && list.typing.len() == list.nodes.len()
-        }
-        Err(_) => false,
-    })
+    };
+    Ok(
+        is_written(&reordered.nodes, row.reordered)
+            && are_written(reordered.places.as_slice(), row.places)
+            && reordered.typing.len() == reordered.nodes.len(),
+    )
+}
+
+/// Whether a row's list is answered as the row has it.
+fn is_answered(alloc: Global, row: &Row) -> Result<bool, AllocError> {
+    let list = list(alloc, row.nodes)?;
+    Ok(
+        has_root(&list)
+            && check_order(alloc, &list) == answer(row.order)
+            && is_shared_so(alloc, &list, row)?
+            && is_reordered_so(alloc, &list, row)?,
+    )
 }
 
 #[test]
@@ -313,11 +327,11 @@ fn answers_as_the_rows(rt: HostRuntime) -> Result<(), Fail> {
     Ok(())
 }
 
-/// A unit, and so many of its compositions with what stands before each.
+/// A unit and its compositions with what stands before each, so many nodes.
 fn compositions(alloc: Global, count: usize) -> Result<NodeList, AllocError> {
     let mut list = NodeList::new(alloc);
     list.push(ListNode::Unit)?;
-    for place in 0..count {
+    for place in 0..count.saturating_sub(1) {
         let node = ListNode::Comp(place, 0);
         if may_follow(&list, &node) {
             list.push(node)?;
@@ -336,28 +350,31 @@ fn refusal(alloc: Global, list: &NodeList) -> Result<Option<CanonRefusal>, Alloc
     Ok(reordered(alloc, list, (unit, unit), &mut types).err())
 }
 
-/// Pairs of what stands before with itself, of which the last has a type of 4,194,303 nodes and one of 8,388,607.
-const PAIRS: [&str; 2] = [
-    "i p00 p11 p22 p33 p44 p55 p66 p77 p88 p99 paa pbb pcc pdd pee pff pgg phh pii pjj pkk u ;lm",
-    "i p00 p11 p22 p33 p44 p55 p66 p77 p88 p99 paa pbb pcc pdd pee pff pgg phh pii pjj pkk pll u ;mn",
-];
+/// Pairs of what stands before with itself: the type of the last has 4,194,303 nodes.
+const LIGHT: &str =
+    "i p00 p11 p22 p33 p44 p55 p66 p77 p88 p99 paa pbb pcc pdd pee pff pgg phh pii pjj pkk u ;lm";
+
+/// The same with one pair more, whose type has 8,388,607 nodes.
+const HEAVY: &str =
+    "i p00 p11 p22 p33 p44 p55 p66 p77 p88 p99 paa pbb pcc pdd pee pff pgg phh pii pjj pkk pll u ;mn";
+
+fn refusal_of_text(alloc: Global, text: &str) -> Result<Option<CanonRefusal>, AllocError> {
+    let list = list(alloc, text)?;
+    refusal(alloc, &list)
+}
+
+fn refusal_of_count(alloc: Global, nodes: usize) -> Result<Option<CanonRefusal>, AllocError> {
+    let list = compositions(alloc, nodes)?;
+    refusal(alloc, &list)
+}
 
 #[test]
 fn refuses_above_the_limits(rt: HostRuntime) -> Result<(), Fail> {
-    let [light, heavy] = PAIRS;
-    let light = list(rt.alloc(), light)?;
-    assert_eq!(rt; refusal(rt.alloc(), &light)?, None);
-    let heavy = list(rt.alloc(), heavy)?;
-    assert_eq!(rt;
-        refusal(rt.alloc(), &heavy)?,
-        Some(CanonRefusal::TypeTooLarge)
-    );
-    let few = compositions(rt.alloc(), 1_048_575)?;
-    assert_eq!(rt; refusal(rt.alloc(), &few)?, None);
-    let many = compositions(rt.alloc(), 1_048_576)?;
-    assert_eq!(rt;
-        refusal(rt.alloc(), &many)?,
-        Some(CanonRefusal::TooManyNodes)
-    );
+    let light = refusal_of_text(rt.alloc(), LIGHT)?;
+    let heavy = refusal_of_text(rt.alloc(), HEAVY)?;
+    assert_eq!(rt; [light, heavy], [None, Some(CanonRefusal::TypeTooLarge)]);
+    let few = refusal_of_count(rt.alloc(), 1_048_576)?;
+    let many = refusal_of_count(rt.alloc(), 1_048_577)?;
+    assert_eq!(rt; [few, many], [None, Some(CanonRefusal::TooManyNodes)]);
     Ok(())
 }
