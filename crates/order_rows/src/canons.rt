@@ -1,25 +1,32 @@
-//! Canonical lists of terms of tables.
+//! Canonical lists of terms of tables. Their texts are those of `texts`.
 
+use crate::texts::{are_written, is_written};
 use canon_list::canonical;
+use std::alloc::{AllocError, Global};
 use std::test::Fail;
-use term_core::{ListNode, Node, TermTable};
+use term_core::{Node, TermTable};
 use type_table::TypeTable;
 
-/// Two witnesses of one arrow, of which the term takes that of the later row first.
-#[test]
-fn names_witnesses(rt: HostRuntime) -> Result<(), Fail> {
-    let mut types = TypeTable::new(rt.alloc());
+/// Whether two witnesses of one arrow, of which the term takes that of the later row first, are named so.
+fn names_the_later_first(alloc: Global) -> Result<bool, AllocError> {
+    let mut types = TypeTable::new(alloc);
     let unit = types.unit()?;
-    let mut table = TermTable::new(rt.alloc());
+    let mut table = TermTable::new(alloc);
     let first = table.add(Node::Witness(5), unit, unit, &types)?;
     let second = table.add(Node::Witness(3), unit, unit, &types)?;
     let root = table.add(Node::Comp(second, first), unit, unit, &types)?;
-    let Ok(canon) = canonical(rt.alloc(), &table, root, &mut types) else {
-        return Err(Fail::from("no canonical list"));
+    let Ok(canon) = canonical(alloc, &table, root, &mut types) else {
+        return Ok(false);
     };
-    let wanted = [ListNode::Witness, ListNode::Witness, ListNode::Comp(0, 1)];
-    assert_eq!(rt; canon.nodes.as_slice(), wanted.as_slice());
-    assert_eq!(rt; canon.names.as_slice(), [3, 5].as_slice());
-    assert_eq!(rt; canon.typing.len(), 3);
+    Ok(
+        is_written(&canon.nodes, "w w ;01")
+            && are_written(canon.names.as_slice(), "35")
+            && canon.typing.len() == 3,
+    )
+}
+
+#[test]
+fn names_witnesses(rt: HostRuntime) -> Result<(), Fail> {
+    assert!(rt; names_the_later_first(rt.alloc())?);
     Ok(())
 }

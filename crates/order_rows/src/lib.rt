@@ -7,3 +7,5 @@
 mod canons;
 #[cfg(test)]
 mod orders;
+#[cfg(test)]
+mod texts;

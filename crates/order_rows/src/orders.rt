@@ -1,387 +1,380 @@
-//! Lists in their order, shared, and reordered.
+//! Lists in their order, shared, and reordered. Their texts are those of `texts`.
 
-ghost use Rattle.std.specs.Prelude.{◌≡◌, slice_get, true};
-ghost use Rattle.simplicity.specs.Nodes.{CanFollow, HasRoot, IsShown};
-ghost use Rattle.term_core.specs.Nodes.{node_of};
+ghost use Rattle.std.specs.Prelude.{◌<◌, length, IfOk};
+ghost use Rattle.simplicity.specs.Nodes.{HasRoot};
+ghost use Rattle.type_table.specs.Kinds.{IsGrown};
 
-use infer_cells::infer;
+use crate::texts::{are_written, has_root, is_written, list, may_follow, place};
+use infer_cells::{InferRefusal, infer};
 use share_order::{CanonRefusal, OrderRefusal, Reordered, check_order, check_shared, reorder};
 use std::alloc::{AllocError, Global};
 use std::test::Fail;
 use term_core::{ListNode, NodeList};
-use type_table::TypeTable;
+use type_table::{TypeId, TypeTable};
 
-/// A node of a row; the hidden sides of all rows are one.
-#[derive(Clone, Copy)]
-enum Plain {
-    Iden,
-    Unit,
-    Injl(usize),
-    Injr(usize),
-    Drop(usize),
-    Comp(usize, usize),
-    Case(usize, usize),
-    Pair(usize, usize),
-    Hidden,
-    Witness,
-}
-
-/// The node that is written so.
-fn node(plain: Plain) -> ListNode {
-    match plain {
-        Plain::Iden => ListNode::Iden,
-        Plain::Unit => ListNode::Unit,
-        Plain::Injl(child) => ListNode::Injl(child),
-        Plain::Injr(child) => ListNode::Injr(child),
-        Plain::Drop(child) => ListNode::Drop(child),
-        Plain::Comp(left, right) => ListNode::Comp(left, right),
-        Plain::Case(left, right) => ListNode::Case(left, right),
-        Plain::Pair(left, right) => ListNode::Pair(left, right),
-        Plain::Hidden => ListNode::Hidden([7; 32]),
-        Plain::Witness => ListNode::Witness,
-    }
-}
-
-/// A list at the arrow of programs, and what is to be answered of it.
+/// A list between two types, and what is to be answered of it.
+///
+/// The types are `1`, `b` of bytes and `2` of two bytes. `order` has the place of the first node that isn't in its
+/// place, `shared` the places of two equal nodes, or nothing. `places` are the least old places of the nodes of the
+/// list reordered.
 struct Row {
     name: &'static str,
-    nodes: &'static [Plain],
-    order: Result<(), OrderRefusal>,
-    shared: Result<(), OrderRefusal>,
-    reordered: &'static [Plain],
-    places: &'static [usize],
+    ends: &'static str,
+    nodes: &'static str,
+    order: &'static str,
+    shared: &'static str,
+    reordered: &'static str,
+    places: &'static str,
 }
 
-static ROWS: [Row; 11] = [
+static ROWS: [Row; 21] = [
     Row {
-        name: "an assertion of true",
-        nodes: &[
-            Plain::Unit,
-            Plain::Injr(0),
-            Plain::Pair(1, 0),
-            Plain::Hidden,
-            Plain::Unit,
-            Plain::Case(3, 4),
-            Plain::Comp(2, 5),
-            Plain::Pair(6, 0),
-            Plain::Iden,
-            Plain::Drop(8),
-            Plain::Comp(7, 9),
-        ],
-        order: Ok(()),
-        shared: Ok(()),
-        reordered: &[
-            Plain::Unit,
-            Plain::Injr(0),
-            Plain::Pair(1, 0),
-            Plain::Hidden,
-            Plain::Unit,
-            Plain::Case(3, 4),
-            Plain::Comp(2, 5),
-            Plain::Pair(6, 0),
-            Plain::Iden,
-            Plain::Drop(8),
-            Plain::Comp(7, 9),
-        ],
-        places: &[0, 1, 2, 3, 4, 5, 6, 7, 8, 9, 10],
+        name: "an empty program",
+        ends: "11",
+        nodes: "u",
+        order: "",
+        shared: "",
+        reordered: "u",
+        places: "0",
     },
     Row {
-        name: "an assertion of true with its units first",
-        nodes: &[
-            Plain::Unit,
-            Plain::Unit,
-            Plain::Injr(0),
-            Plain::Pair(2, 0),
-            Plain::Hidden,
-            Plain::Case(4, 1),
-            Plain::Comp(3, 5),
-            Plain::Pair(6, 0),
-            Plain::Iden,
-            Plain::Drop(8),
-            Plain::Comp(7, 9),
-        ],
-        order: Err(OrderRefusal::NotCanonical { node: 1 }),
-        shared: Ok(()),
-        reordered: &[
-            Plain::Unit,
-            Plain::Injr(0),
-            Plain::Pair(1, 0),
-            Plain::Hidden,
-            Plain::Unit,
-            Plain::Case(3, 4),
-            Plain::Comp(2, 5),
-            Plain::Pair(6, 0),
-            Plain::Iden,
-            Plain::Drop(8),
-            Plain::Comp(7, 9),
-        ],
-        places: &[0, 2, 3, 4, 1, 5, 6, 7, 8, 9, 10],
+        name: "the identity on bytes",
+        ends: "bb",
+        nodes: "i",
+        order: "",
+        shared: "",
+        reordered: "i",
+        places: "0",
+    },
+    Row {
+        name: "the second of two bytes",
+        ends: "2b",
+        nodes: "i d0",
+        order: "",
+        shared: "",
+        reordered: "i d0",
+        places: "01",
+    },
+    Row {
+        name: "two bytes exchanged",
+        ends: "22",
+        nodes: "i d0 t0 p12",
+        order: "",
+        shared: "",
+        reordered: "i d0 t0 p12",
+        places: "0123",
+    },
+    Row {
+        name: "a byte",
+        ends: "1b",
+        nodes: "u b ;01",
+        order: "",
+        shared: "",
+        reordered: "u b ;01",
+        places: "012",
+    },
+    Row {
+        name: "a byte bound over another",
+        ends: "bb",
+        nodes: "u b ;01 i p23 t3 ;45",
+        order: "",
+        shared: "",
+        reordered: "u b ;01 i p23 t3 ;45",
+        places: "0123456",
+    },
+    Row {
+        name: "an assertion of true",
+        ends: "11",
+        nodes: "u r0 p10 h u c34 ;25 p60 i d8 ;79",
+        order: "",
+        shared: "",
+        reordered: "u r0 p10 h u c34 ;25 p60 i d8 ;79",
+        places: "0123456789a",
+    },
+    Row {
+        name: "its units first",
+        ends: "11",
+        nodes: "u u r0 p20 h c41 ;35 p60 i d8 ;79",
+        order: "1",
+        shared: "",
+        reordered: "u r0 p10 h u c34 ;25 p60 i d8 ;79",
+        places: "0234156789a",
+    },
+    Row {
+        name: "an assertion of false",
+        ends: "11",
+        nodes: "u l0 p10 h u c34 ;25 p60 i d8 ;79",
+        order: "",
+        shared: "",
+        reordered: "u l0 p10 h u c34 ;25 p60 i d8 ;79",
+        places: "0123456789a",
+    },
+    Row {
+        name: "a function called twice",
+        ends: "11",
+        nodes: "u r0 i p22 u c44 ;35 ;16 w ;86 p90 i db ;ac p7d ;ec",
+        order: "",
+        shared: "",
+        reordered: "u r0 i p22 u c44 ;35 ;16 w ;86 p90 i db ;ac p7d ;ec",
+        places: "0123456789abcdef",
+    },
+    Row {
+        name: "a pair whose parts aren't used",
+        ends: "11",
+        nodes: "w i p01 i t3 i p45 u ;67 ;28",
+        order: "",
+        shared: "13",
+        reordered: "w i p01 t1 i p34 u ;56 ;27",
+        places: "012456789",
+    },
+    Row {
+        name: "a match with its right side cut off",
+        ends: "11",
+        nodes: "w i p01 u w u p45 u ;67 h c39 ;2a",
+        order: "4",
+        shared: "37",
+        reordered: "w i p01 u h c34 ;25",
+        places: "01239ab",
     },
     Row {
         name: "an unreached node first",
-        nodes: &[Plain::Iden, Plain::Unit],
-        order: Err(OrderRefusal::NotCanonical { node: 0 }),
-        shared: Ok(()),
-        reordered: &[Plain::Unit],
-        places: &[1],
+        ends: "11",
+        nodes: "i u",
+        order: "0",
+        shared: "",
+        reordered: "u",
+        places: "1",
     },
     Row {
         name: "an unreached node between",
-        nodes: &[Plain::Unit, Plain::Injl(0), Plain::Comp(0, 0)],
-        order: Err(OrderRefusal::NotCanonical { node: 1 }),
-        shared: Ok(()),
-        reordered: &[Plain::Unit, Plain::Comp(0, 0)],
-        places: &[0, 2],
+        ends: "11",
+        nodes: "u l0 ;00",
+        order: "1",
+        shared: "",
+        reordered: "u ;00",
+        places: "02",
     },
     Row {
         name: "equal leaves",
-        nodes: &[
-            Plain::Iden,
-            Plain::Iden,
-            Plain::Pair(0, 1),
-            Plain::Unit,
-            Plain::Comp(2, 3),
-        ],
-        order: Ok(()),
-        shared: Err(OrderRefusal::NotShared {
-            first: 0,
-            second: 1,
-        }),
-        reordered: &[
-            Plain::Iden,
-            Plain::Pair(0, 0),
-            Plain::Unit,
-            Plain::Comp(1, 2),
-        ],
-        places: &[0, 2, 3, 4],
+        ends: "11",
+        nodes: "i i p01 u ;23",
+        order: "",
+        shared: "01",
+        reordered: "i p00 u ;12",
+        places: "0234",
     },
     Row {
         name: "the first of equal leaves reached last",
-        nodes: &[
-            Plain::Iden,
-            Plain::Iden,
-            Plain::Pair(1, 0),
-            Plain::Unit,
-            Plain::Comp(2, 3),
-        ],
-        order: Err(OrderRefusal::NotCanonical { node: 0 }),
-        shared: Err(OrderRefusal::NotShared {
-            first: 0,
-            second: 1,
-        }),
-        reordered: &[
-            Plain::Iden,
-            Plain::Pair(0, 0),
-            Plain::Unit,
-            Plain::Comp(1, 2),
-        ],
-        places: &[0, 2, 3, 4],
+        ends: "11",
+        nodes: "i i p10 u ;23",
+        order: "0",
+        shared: "01",
+        reordered: "i p00 u ;12",
+        places: "0234",
     },
     Row {
         name: "two pairs of equal leaves",
-        nodes: &[
-            Plain::Unit,
-            Plain::Iden,
-            Plain::Iden,
-            Plain::Unit,
-            Plain::Pair(0, 1),
-            Plain::Pair(2, 3),
-            Plain::Pair(4, 5),
-            Plain::Unit,
-            Plain::Comp(6, 7),
-        ],
-        order: Err(OrderRefusal::NotCanonical { node: 2 }),
-        shared: Err(OrderRefusal::NotShared {
-            first: 1,
-            second: 2,
-        }),
-        reordered: &[
-            Plain::Unit,
-            Plain::Iden,
-            Plain::Pair(0, 1),
-            Plain::Pair(1, 0),
-            Plain::Pair(2, 3),
-            Plain::Unit,
-            Plain::Comp(4, 5),
-        ],
-        places: &[0, 1, 4, 5, 6, 7, 8],
+        ends: "11",
+        nodes: "u i i u p01 p23 p45 u ;67",
+        order: "2",
+        shared: "12",
+        reordered: "u i p01 p10 p23 u ;45",
+        places: "0145678",
     },
     Row {
         name: "three equal leaves",
-        nodes: &[
-            Plain::Iden,
-            Plain::Iden,
-            Plain::Iden,
-            Plain::Pair(0, 1),
-            Plain::Pair(2, 3),
-            Plain::Unit,
-            Plain::Comp(4, 5),
-        ],
-        order: Err(OrderRefusal::NotCanonical { node: 0 }),
-        shared: Err(OrderRefusal::NotShared {
-            first: 0,
-            second: 1,
-        }),
-        reordered: &[
-            Plain::Iden,
-            Plain::Pair(0, 0),
-            Plain::Pair(0, 1),
-            Plain::Unit,
-            Plain::Comp(2, 3),
-        ],
-        places: &[0, 3, 4, 5, 6],
+        ends: "11",
+        nodes: "i i i p01 p23 u ;45",
+        order: "0",
+        shared: "01",
+        reordered: "i p00 p01 u ;23",
+        places: "03456",
     },
     Row {
         name: "witnesses",
-        nodes: &[
-            Plain::Witness,
-            Plain::Witness,
-            Plain::Pair(0, 1),
-            Plain::Unit,
-            Plain::Comp(2, 3),
-        ],
-        order: Ok(()),
-        shared: Ok(()),
-        reordered: &[
-            Plain::Witness,
-            Plain::Witness,
-            Plain::Pair(0, 1),
-            Plain::Unit,
-            Plain::Comp(2, 3),
-        ],
-        places: &[0, 1, 2, 3, 4],
+        ends: "11",
+        nodes: "w w p01 u ;23",
+        order: "",
+        shared: "",
+        reordered: "w w p01 u ;23",
+        places: "01234",
     },
     Row {
         name: "a hidden side twice",
-        nodes: &[
-            Plain::Hidden,
-            Plain::Unit,
-            Plain::Case(0, 1),
-            Plain::Hidden,
-            Plain::Case(1, 3),
-            Plain::Pair(2, 4),
-            Plain::Witness,
-            Plain::Comp(6, 5),
-            Plain::Unit,
-            Plain::Comp(7, 8),
-        ],
-        order: Err(OrderRefusal::NotCanonical { node: 0 }),
-        shared: Err(OrderRefusal::NotShared {
-            first: 0,
-            second: 3,
-        }),
-        reordered: &[
-            Plain::Witness,
-            Plain::Hidden,
-            Plain::Unit,
-            Plain::Case(1, 2),
-            Plain::Case(2, 1),
-            Plain::Pair(3, 4),
-            Plain::Comp(0, 5),
-            Plain::Comp(6, 2),
-        ],
-        places: &[6, 0, 1, 2, 4, 5, 7, 9],
+        ends: "11",
+        nodes: "h u c01 h c13 p24 w ;65 u ;78",
+        order: "0",
+        shared: "03",
+        reordered: "w h u c12 c21 p34 ;05 ;62",
+        places: "60124579",
     },
     Row {
         name: "a right child first",
-        nodes: &[Plain::Unit, Plain::Iden, Plain::Comp(1, 0)],
-        order: Err(OrderRefusal::NotCanonical { node: 0 }),
-        shared: Ok(()),
-        reordered: &[Plain::Iden, Plain::Unit, Plain::Comp(0, 1)],
-        places: &[1, 0, 2],
+        ends: "11",
+        nodes: "u i ;10",
+        order: "0",
+        shared: "",
+        reordered: "i u ;01",
+        places: "102",
     },
 ];
 
-/// Whether there is a node at a place, and it isn't hidden.
-fn is_shown(list: &NodeList, place: usize) -> bool
-    ensures { result ≡ true → IsShown (slice_get list.now place) }
-{
-    place < list.len() && !matches!(list.get(place), ListNode::Hidden(_))
-}
-
-/// Whether a node may follow those of a list.
-fn may_follow(list: &NodeList, node: &ListNode) -> bool
-    ensures { result ≡ true → CanFollow list.now (node_of node.now) }
-{
-    match node {
-        ListNode::Injl(child) => is_shown(list, *child),
-        ListNode::Injr(child) => is_shown(list, *child),
-        ListNode::Take(child) => is_shown(list, *child),
-        ListNode::Drop(child) => is_shown(list, *child),
-        ListNode::Comp(left, right) => is_shown(list, *left) && is_shown(list, *right),
-        ListNode::Pair(left, right) => is_shown(list, *left) && is_shown(list, *right),
-        ListNode::Case(left, right) => {
-            *left < list.len()
-                && *right < list.len()
-                && (is_shown(list, *left) || is_shown(list, *right))
-        }
-        _ => true,
+/// The answer that a text of places stands for.
+fn answer(places: &str) -> Result<(), OrderRefusal> {
+    match places.as_bytes() {
+        [] => Ok(()),
+        [node] => Err(OrderRefusal::NotCanonical { node: place(*node) }),
+        [first, second] => Err(OrderRefusal::NotShared {
+            first: place(*first),
+            second: place(*second),
+        }),
+        _ => Err(OrderRefusal::OutOfMemory),
     }
 }
 
-/// The list of these nodes, and whether they can stand in one.
-fn list(alloc: Global, nodes: &[Plain]) -> Result<Option<NodeList>, AllocError> {
-    let mut list = NodeList::new(alloc);
-    for plain in nodes {
-        let node = node(*plain);
-        if !may_follow(&list, &node) {
-            return Ok(None);
-        }
-        list.push(node)?;
-    }
-    Ok(Some(list))
-}
-
-/// Whether the last node is there and isn't hidden.
-fn has_root(list: &NodeList) -> bool
-    ensures { result ≡ true → HasRoot list.now }
-{
-    let count = list.len();
-    count > 0 && is_shown(list, count - 1)
-}
-
-/// What is answered of a list at the arrow of programs: its sharing, and the list reordered.
-fn answers(
-    alloc: Global,
-    list: &NodeList,
-    types: &mut TypeTable,
-) -> Result<(Result<(), OrderRefusal>, Result<Reordered, CanonRefusal>), Fail>
-    requires { HasRoot list.now }
+/// The types that two letters stand for.
+fn ends(letters: &str, types: &mut TypeTable) -> Result<(TypeId, TypeId), AllocError>
+    ensures { IfOk result (λ ends. (ends.0 < length types.new) × (ends.1 < length types.new)) }
 {
     let unit = types.unit()?;
-    let typing = infer(alloc, list, unit, unit, types)?;
-    let shared = check_shared(alloc, list, &typing, types);
-    let reordered = reorder(alloc, list, unit, unit, types);
-    Ok((shared, reordered))
+    let byte = types.word(8)?;
+    let both = types.product(byte, byte)?;
+    match letters.as_bytes() {
+        [b'b', b'b'] => Ok((byte, byte)),
+        [b'1', b'b'] => Ok((unit, byte)),
+        [b'2', b'b'] => Ok((both, byte)),
+        [b'2', b'2'] => Ok((both, both)),
+        _ => Ok((unit, unit)),
+    }
+}
+
+/// What is answered of a list's sharing under its least typing.
+fn sharing(
+    alloc: Global,
+    list: &NodeList,
+    ends: (TypeId, TypeId),
+    types: &mut TypeTable,
+) -> Result<(), OrderRefusal>
+    requires rooted { HasRoot list.now }
+    requires ends { (ends.0 < length types.old) × (ends.1 < length types.old) }
+    ensures grown { IsGrown types.old types.new }
+{
+    let (source, target) = ends;
+    match infer(alloc, list, source, target, types) {
+        Ok(typing) => check_shared(alloc, list, &typing, types),
+        Err(_) => Err(OrderRefusal::OutOfMemory),
+    }
+}
+
+/// A list reordered, or why it isn't; want of memory where it has no typing.
+fn reordered(
+    alloc: Global,
+    list: &NodeList,
+    ends: (TypeId, TypeId),
+    types: &mut TypeTable,
+) -> Result<Reordered, CanonRefusal>
+    requires rooted { HasRoot list.now }
+    requires ends { (ends.0 < length types.old) × (ends.1 < length types.old) }
+{
+    let (source, target) = ends;
+    match infer(alloc, list, source, target, types) {
+        Ok(_) | Err(InferRefusal::TypeTooLarge) => reorder(alloc, list, source, target, types),
+        Err(_) => Err(CanonRefusal::OutOfMemory),
+    }
+}
+
+/// Whether a row's list is shared under its least typing as the row has it.
+fn is_shared_so(alloc: Global, list: &NodeList, row: &Row) -> Result<bool, AllocError>
+    requires { HasRoot list.now }
+{
+    let mut types = TypeTable::new(alloc);
+    let ends = ends(row.ends, &mut types)?;
+    Ok(sharing(alloc, list, ends, &mut types) == answer(row.shared))
+}
+
+/// Whether a row's list is reordered as the row has it.
+fn is_reordered_so(alloc: Global, list: &NodeList, row: &Row) -> Result<bool, AllocError>
+    requires { HasRoot list.now }
+{
+    let mut types = TypeTable::new(alloc);
+    let ends = ends(row.ends, &mut types)?;
+    let Ok(reordered) = reordered(alloc, list, ends, &mut types) else {
+        return Ok(false);
+    };
+    Ok(
+        is_written(&reordered.nodes, row.reordered)
+            && are_written(reordered.places.as_slice(), row.places)
+            && reordered.typing.len() == reordered.nodes.len(),
+    )
+}
+
+/// Whether a row's list is answered as the row has it.
+fn is_answered(alloc: Global, row: &Row) -> Result<bool, AllocError> {
+    let list = list(alloc, row.nodes)?;
+    Ok(
+        has_root(&list)
+            && check_order(alloc, &list) == answer(row.order)
+            && is_shared_so(alloc, &list, row)?
+            && is_reordered_so(alloc, &list, row)?,
+    )
 }
 
 #[test]
-fn tells_the_order(rt: HostRuntime) -> Result<(), Fail> {
+fn answers_as_the_rows(rt: HostRuntime) -> Result<(), Fail> {
     for row in ROWS.iter() {
-        let nodes = list(rt.alloc(), row.nodes)?.ok_or("no list")?;
-        assert_eq!(rt; check_order(rt.alloc(), &nodes), row.order, "{}", row.name);
+        assert!(rt; is_answered(rt.alloc(), row)?, "{}", row.name);
     }
     Ok(())
 }
 
-#[test]
-fn shares_and_reorders(rt: HostRuntime) -> Result<(), Fail> {
-    for row in ROWS.iter() {
-        let name = row.name;
-        let nodes = list(rt.alloc(), row.nodes)?.ok_or("no list")?;
-        if !has_root(&nodes) {
-            return Err(Fail::from("no root"));
+/// A unit and its compositions with what stands before each, so many nodes.
+fn compositions(alloc: Global, count: usize) -> Result<NodeList, AllocError> {
+    let mut list = NodeList::new(alloc);
+    list.push(ListNode::Unit)?;
+    for place in 0..count.saturating_sub(1) {
+        let node = ListNode::Comp(place, 0);
+        if may_follow(&list, &node) {
+            list.push(node)?;
         }
-        let mut types = TypeTable::new(rt.alloc());
-        let (shared, reordered) = answers(rt.alloc(), &nodes, &mut types)?;
-        assert_eq!(rt; shared, row.shared, "{name}");
-        let Ok(reordered) = reordered else {
-            return Err(Fail::from("not reordered"));
-        };
-        let wanted = list(rt.alloc(), row.reordered)?.ok_or("no list")?;
-        assert_eq!(rt; reordered.nodes.as_slice(), wanted.as_slice(), "{name}");
-        assert_eq!(rt; reordered.typing.len(), row.reordered.len(), "{name}");
-        assert_eq!(rt; reordered.places.as_slice(), row.places, "{name}");
     }
+    Ok(list)
+}
+
+/// Why a list at the arrow of programs isn't reordered.
+fn refusal(alloc: Global, list: &NodeList) -> Result<Option<CanonRefusal>, AllocError> {
+    let mut types = TypeTable::new(alloc);
+    let unit = types.unit()?;
+    if !has_root(list) {
+        return Ok(None);
+    }
+    Ok(reordered(alloc, list, (unit, unit), &mut types).err())
+}
+
+/// Pairs of what stands before with itself: the type of the last has 4,194,303 nodes.
+const LIGHT: &str =
+    "i p00 p11 p22 p33 p44 p55 p66 p77 p88 p99 paa pbb pcc pdd pee pff pgg phh pii pjj pkk u ;lm";
+
+/// The same with one pair more, whose type has 8,388,607 nodes.
+const HEAVY: &str =
+    "i p00 p11 p22 p33 p44 p55 p66 p77 p88 p99 paa pbb pcc pdd pee pff pgg phh pii pjj pkk pll u ;mn";
+
+fn refusal_of_text(alloc: Global, text: &str) -> Result<Option<CanonRefusal>, AllocError> {
+    let list = list(alloc, text)?;
+    refusal(alloc, &list)
+}
+
+fn refusal_of_count(alloc: Global, nodes: usize) -> Result<Option<CanonRefusal>, AllocError> {
+    let list = compositions(alloc, nodes)?;
+    refusal(alloc, &list)
+}
+
+#[test]
+fn refuses_above_the_limits(rt: HostRuntime) -> Result<(), Fail> {
+    let light = refusal_of_text(rt.alloc(), LIGHT)?;
+    let heavy = refusal_of_text(rt.alloc(), HEAVY)?;
+    assert_eq!(rt; [light, heavy], [None, Some(CanonRefusal::TypeTooLarge)]);
+    let few = refusal_of_count(rt.alloc(), 1_048_576)?;
+    let many = refusal_of_count(rt.alloc(), 1_048_577)?;
+    assert_eq!(rt; [few, many], [None, Some(CanonRefusal::TooManyNodes)]);
     Ok(())
 }
