@@ -6,3 +6,5 @@
 mod bounds;
 #[cfg(test)]
 mod frames;
+#[cfg(test)]
+mod values;
