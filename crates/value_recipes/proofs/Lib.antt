@@ -1,0 +1,3 @@
+-- The files of this crate's laws and answers to goals.
+pub mod Layers
+pub mod Going
