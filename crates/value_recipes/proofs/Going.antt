@@ -1,21 +1,22 @@
 -- Terms that are made one after the other, in tables that grow meanwhile.
-use Rattle.std.proofs.Common.{◌≡◌, ℕ, suc, ◌+◌, ◌<◌, List, [], ◌∷◌, ◌++◌, length, map, drop, get_or, refl, sym, ap, ◌∙◌, arith, append_assoc, append-nil}
+use Rattle.std.proofs.Common.{◌≡◌, ℕ, suc, ◌+◌, ◌<◌, List, [], ◌∷◌, ◌++◌, length, map, drop, get_or, refl, sym, ap, ◌∙◌, subst, arith, append_assoc, append-nil}
 use Rattle.std.specs.Prelude.{slice_get, Some}
 use Rattle.std.proofs.lemmas.List.{drop_more, map-append}
 use Rattle.std.proofs.lemmas.List.Elements.{All-cons, All-head, All-tail, All-nil}
 use Rattle.hl_data.specs.declared.value.HlValue.{HlValue}
 use Rattle.hl_syntax.specs.declared.kinds.HlType.{HlType}
 use Rattle.hl_terms.specs.Translated.{all_values, each_value, value_term}
-use Rattle.hl_values.proofs.Encoding.{kinds_at}
+use Rattle.value_recipes.proofs.Encoded.{kinds_at}
 use Rattle.simplicity.specs.Canon.{Declared}
 use Rattle.simplicity.specs.Types.{Kind}
-use Rattle.type_table.specs.Kinds.{IsGrown}
+use Rattle.type_table.specs.Kinds.{kind_at, IsGrown}
 use Rattle.type_table.proofs.Growth.{grown_through}
 use Rattle.term_core.specs.declared.table_node.TermRow.{TermRow}
 use Rattle.term_core.specs.Terms.{term_at, StandsOver, MeansTerm, KeepsRows}
 use Rattle.term_core.proofs.Growth.{kept_through}
 use Rattle.term_recipes.specs.Shapes.{terms_at, AreThere}
 use Rattle.term_recipes.proofs.Halved.{terms_later, there_later}
+use Rattle.term_recipes.proofs.Later.{kind_later}
 use Rattle.value_recipes.specs.Made.{AreMade}
 
 -- the terms so far, and those that are to come
@@ -61,3 +62,19 @@ pub item_next : (items : List HlValue) (i : ℕ) (item : HlValue) (k : HlType) (
 item_next items i item k a less is =
     let front : drop i items ≡ item ∷ drop (i + 1) items = drop_more items i item less ∙ ap (λ v. v ∷ drop (i + 1) items) (sym is) in
     ap (λ vs. all_values (map value_term vs) k a) front
+
+-- after a part, and after an item
+module _ (old kinds more : List Kind) (before rows later : List TermRow) (source : ℕ) (ids pushed : List ℕ) (id : ℕ) (vs : List HlValue) (i : ℕ) (v : HlValue) (k : HlType) (all : List Declared) (less : i < length vs) (is : v ≡ get_or vs i v)
+    (within : source < length old) (grown : IsGrown kinds more) (kept : KeepsRows rows later) (stands : StandsOver more later) (made : MeansTerm more later id (value_term v k (kind_at kinds source))) (pushes : pushed ≡ ids ++ id ∷ []) where
+  goes : (rest : List Declared) → Going old kinds before rows ids (value_term v k (kind_at old source) ∷ rest) all → Going old more before later pushed rest all
+  goes rest g =
+      let here = kind_later old kinds source g.grown within in
+      let m : MeansTerm more later id (value_term v k (kind_at old source)) = subst (λ a. MeansTerm more later id (value_term v k a)) here made in
+      subst (λ p. Going old more before later p rest all) (sym pushes) (going_on old kinds more before rows later ids id (value_term v k (kind_at old source)) rest all g grown kept stands m)
+
+  pub part_goes : (ks : List HlType) → slice_get ks i ≡ Some k → Going old kinds before rows ids (each_value (map value_term (drop i vs)) (drop i ks) (kind_at old source)) all →
+      Going old more before later pushed (each_value (map value_term (drop (i + 1) vs)) (drop (i + 1) ks) (kind_at old source)) all
+  part_goes ks at g = goes _ (subst (λ ts. Going old kinds before rows ids ts all) (part_next vs ks i v k (kind_at old source) less is at) g)
+
+  pub item_goes : Going old kinds before rows ids (all_values (map value_term (drop i vs)) k (kind_at old source)) all → Going old more before later pushed (all_values (map value_term (drop (i + 1) vs)) k (kind_at old source)) all
+  item_goes g = goes _ (subst (λ ts. Going old kinds before rows ids ts all) (item_next vs i v k (kind_at old source) less is) g)

@@ -1,24 +1,25 @@
 -- The terms of values by their parts.
-use Rattle.std.proofs.Common.{◌≡◌, ℕ, Bool, true, false, List, map, Option, Some, None, refl, sym, ap, ◌∙◌}
-use Rattle.std.specs.Prelude.{IsSome}
+use Rattle.std.proofs.Common.{◌≡◌, ℕ, Bool, true, false, ◌&&◌, List, map, Option, Some, None, option_map, refl, sym, ap, ◌∙◌, subst, IsTrue}
+use Rattle.std.specs.Prelude.{IsSome, option_and_then}
 use Rattle.hl_data.specs.declared.value.HlValue.{HlValue, map-HlValue}
 use Rattle.hl_data.specs.declared.value.HlValue.TheFolds.{fold-roll-HlValue}
 use Rattle.hl_data.specs.declared.value.HlValue.TheOpen.{HlValue-F}
 use Rattle.hl_data.specs.declared.value.HlValue.TheVariants as value
 use Rattle.hl_data.specs.declared.value.HlValue.TheViews.{roll-HlValue}
-use Rattle.hl_syntax.specs.declared.kinds.HlType.{HlType}
+use Rattle.hl_syntax.specs.declared.kinds.HlType.{HlType, map-HlType}
+use Rattle.hl_syntax.specs.declared.kinds.HlType.TheFolds.{fold-roll-HlType}
 use Rattle.hl_syntax.specs.declared.kinds.HlType.TheOpen.{HlType-F}
 use Rattle.hl_syntax.specs.declared.kinds.HlType.TheVariants as kind
 use Rattle.hl_syntax.specs.declared.kinds.HlType.TheViews.{out-HlType, roll-HlType, out-roll-HlType}
 use Rattle.hl_meaning.specs.Entries.{IsValueOf}
-use Rattle.hl_meaning.specs.Values.{encoded}
+use Rattle.hl_meaning.specs.Values.{Encoding, at_all, encode_at, encode_step, encoded, list_value}
 use Rattle.hl_terms.specs.Translated.{ValueTerm, all_values, each_value, list_term, value_at, value_term}
 use Rattle.hl_term_laws.proofs.Params.{value_gives}
 use Rattle.simplicity.specs.Arrows.{IsTypedTerm}
 use Rattle.simplicity.specs.Canon.{Declared}
 use Rattle.simplicity.specs.Makes.{to_left, to_right, tuple, unit}
-use Rattle.simplicity.specs.Types.{Kind, One, Value}
-use Rattle.simplicityhl.specs.Kinds.{bound_level, form}
+use Rattle.simplicity.specs.Types.{Kind, One, Value, Inl, Inr}
+use Rattle.simplicityhl.specs.Kinds.{bound_level, form, is_bound, is_sound, sound_step, IsSound}
 
 -- what stands for a value is typed
 pub value_typed : (v : HlValue) (k : HlType) (a : Kind) → IsValueOf v k → IsTypedTerm (value_term v k a)
@@ -57,6 +58,46 @@ term-Left v k a u left right v_is k_is = rolled (HlValue-F.Left u) (HlType-F.Eit
 pub term-Right : (v : HlValue) (k : HlType) (a : Kind) (u : HlValue) (left right : HlType) → v ≡ value.Right u → k ≡ kind.Either left right → value_term v k a ≡ to_right (form left) (value_term u right a)
 term-Right v k a u left right v_is k_is = rolled (HlValue-F.Right u) (HlType-F.Either left right) v k a (value.rolls-Right u ∙ sym v_is) (kind.rolls-Either left right ∙ sym k_is)
 
--- at any type
-flat : (w : HlValue-F HlValue) (v : HlValue) (k : HlType) (a : Kind) → roll-HlValue w ≡ v → value_term v k a ≡ value_at (map-HlValue HlValue ValueTerm value_term w) (out-HlType k) a
-flat w v k a v_is = ap (λ u. value_term u k a) (sym v_is) ∙ ap (λ (f : ValueTerm). f k a) (fold-roll-HlValue ValueTerm (λ x kind. value_at x (out-HlType kind)) w)
+-- Parts of a value of a type that is one layer.
+encoded_rolled : (w : HlValue-F HlValue) (x : HlType-F HlType) (v : HlValue) (k : HlType) → roll-HlValue w ≡ v → roll-HlType x ≡ k → encoded v k ≡ encode_at (map-HlValue HlValue Encoding encoded w) x
+encoded_rolled w x v k v_is k_is =
+    ap (λ u. encoded u k) (sym v_is) ∙ ap (λ (f : Encoding). f k) (fold-roll-HlValue Encoding encode_step w) ∙ ap (encode_at (map-HlValue HlValue Encoding encoded w)) (ap out-HlType (sym k_is) ∙ out-roll-HlType x)
+
+mapped_there : {A B : Type 0} (f : A → B) (o : Option A) → IsSome (option_map f o) → IsSome o
+mapped_there f (Some a) h = refl
+mapped_there f None h = absurd (cc)
+
+then_there : {A B : Type 0} (f : A → Option B) (o : Option A) → IsSome (option_and_then f o) → IsSome o
+then_there f (Some a) h = refl
+then_there f None h = absurd (cc)
+
+pub list_there : (v : HlValue) (k : HlType) (vs : List HlValue) (item got : HlType) (bound : ℕ) → v ≡ value.List vs → k ≡ kind.List item bound → got ≡ item → IsValueOf v k → IsSome (at_all (map encoded vs) got)
+list_there v k vs item got bound v_is k_is got_is h =
+    let is = encoded_rolled (HlValue-F.List vs) (HlType-F.List item bound) v k (value.rolls-List vs ∙ sym v_is) (kind.rolls-List item bound ∙ sym k_is) in
+    subst (λ kind. IsSome (at_all (map encoded vs) kind)) (sym got_is) (then_there (list_value (bound_level bound)) (at_all (map encoded vs) item) (subst IsSome is h))
+
+pub left_there : (v : HlValue) (k : HlType) (u got : HlValue) (left right got_left : HlType) → v ≡ value.Left u → k ≡ kind.Either left right → got ≡ u → got_left ≡ left → IsValueOf v k → IsValueOf got got_left
+left_there v k u got left right got_left v_is k_is got_is left_is h =
+    let is = encoded_rolled (HlValue-F.Left u) (HlType-F.Either left right) v k (value.rolls-Left u ∙ sym v_is) (kind.rolls-Either left right ∙ sym k_is) in
+    rw (got_is, left_is) (mapped_there Inl (encoded u left) (subst IsSome is h))
+
+pub right_there : (v : HlValue) (k : HlType) (u got : HlValue) (left right got_right : HlType) → v ≡ value.Right u → k ≡ kind.Either left right → got ≡ u → got_right ≡ right → IsValueOf v k → IsValueOf got got_right
+right_there v k u got left right got_right v_is k_is got_is right_is h =
+    let is = encoded_rolled (HlValue-F.Right u) (HlType-F.Either left right) v k (value.rolls-Right u ∙ sym v_is) (kind.rolls-Either left right ∙ sym k_is) in
+    rw (got_is, right_is) (mapped_there Inr (encoded u right) (subst IsSome is h))
+
+sound_rolled : (x : HlType-F HlType) (k : HlType) → roll-HlType x ≡ k → is_sound k ≡ sound_step (map-HlType HlType Bool is_sound x)
+sound_rolled x k is = ap is_sound (sym is) ∙ fold-roll-HlType Bool sound_step x
+
+both_true : (a b : Bool) → IsTrue (a && b) → IsTrue a × IsTrue b
+both_true true b h = (refl, h)
+both_true false b h = absurd (cc)
+
+pub list_sound : (k item got : HlType) (bound : ℕ) → k ≡ kind.List item bound → got ≡ item → IsSound k → IsSound got
+list_sound k item got bound is got_is h =
+    rw got_is (both_true (is_sound item) (is_bound bound) (subst IsTrue (sound_rolled (HlType-F.List item bound) k (kind.rolls-List item bound ∙ sym is)) h)).0
+
+pub either_sound : (k left right got_left got_right : HlType) → k ≡ kind.Either left right → got_left ≡ left → got_right ≡ right → IsSound k → IsSound got_left × IsSound got_right
+either_sound k left right got_left got_right is left_is right_is h =
+    let both = both_true (is_sound left) (is_sound right) (subst IsTrue (sound_rolled (HlType-F.Either left right) k (kind.rolls-Either left right ∙ sym is)) h) in
+    (rw left_is both.0, rw right_is both.1)
