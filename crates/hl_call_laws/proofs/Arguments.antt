@@ -1,5 +1,5 @@
 -- The argument of a call: the values of the parameters in it, and their encodings in its encoding.
-use Rattle.std.proofs.Common.{◌≡◌, List, [], ◌∷◌, map, Option, Some, None, option_map, refl, sym, ap, ◌∙◌}
+use Rattle.std.proofs.Common.{◌≡◌, List, [], ◌∷◌, map, Some, refl, ap}
 use Rattle.hl_data.specs.declared.value.HlValue.{HlValue}
 use Rattle.hl_data.specs.declared.value.HlValue.TheOpen.{HlValue-F}
 use Rattle.hl_data.specs.declared.value.HlValue.TheViews.{out-HlValue}
@@ -13,7 +13,7 @@ use Rattle.simplicityhl.specs.Kinds.{form}
 use Rattle.hl_meaning.specs.Mean.{parts_of, in_argument}
 use Rattle.hl_meaning.specs.Values.{encoded, at_each, beside}
 use Rattle.hl_progress.specs.Calls.{argument_type}
-use Rattle.hl_term_laws.proofs.Encoded.{form_at, layer_value, opened, Mapped, mapped}
+use Rattle.hl_term_laws.proofs.Encoded.{form_at, layer_value, opened, mapped}
 
 abbrev kinds_of : List TypedName → List HlType
 kinds_of params = map (λ (p : TypedName). p.kind) params

@@ -1,24 +1,24 @@
 -- Calls of a typed program: the term of the function that is called gives what the call means.
-use Rattle.std.proofs.Common.{◌≡◌, ℕ, List, find, map, bytes_eq, Option, Some, refl, sym, ap, ◌∙◌, subst}
-use Rattle.hl_data.specs.declared.typed.TypedFunction.{TypedFunction}
+use Rattle.std.proofs.Common.{◌≡◌, Option, sym, ap, ◌∙◌, subst}
 use Rattle.hl_data.specs.declared.value.HlValue.{HlValue}
 use Rattle.hl_syntax.specs.declared.kinds.HlType.{HlType}
 use Rattle.simplicity.specs.Canon.{erased}
 use Rattle.simplicity.specs.Terms as bare
 use Rattle.simplicity.specs.Types.{Value}
 use Rattle.hl_meaning.specs.Answer.{Answer, gives, fails, stuck, shaped}
-use Rattle.hl_meaning.specs.Mean.{Function, meaning, functions_of, parts_of}
-use Rattle.hl_rules.specs.Exprs.{param_types}
+use Rattle.hl_meaning.specs.Mean.{meaning, functions_of, parts_of}
 use Rattle.hl_typing.specs.Programs as programs
 use Rattle.hl_progress.proofs.Programs.{typed_answers}
 use Rattle.hl_progress.specs.Held.{HasAnswer}
 use Rattle.hl_terms.specs.Programs.{program_terms}
-use Rattle.hl_terms.specs.Translated.{FunctionTerm}
-use Rattle.hl_call_laws.specs.Laws.{Agrees, CallsAgree}
+use Rattle.hl_call_laws.specs.Laws.{Agrees, CallsAgree, CompiledCallsAgree}
 use Rattle.hl_term_laws.specs.Renders.{Computes, AreGiven}
 use Rattle.hl_call_laws.proofs.Arguments.{arguments, argument_form}
-use Rattle.hl_term_laws.proofs.Called.{FoundRendered, found_rendered}
-use Rattle.hl_call_laws.proofs.Converted.{recodes}
+use Rattle.hl_term_laws.proofs.Called.{found_rendered}
+use Rattle.hl_expansions.proofs.Jets.{jets_rendered}
+use Rattle.hl_expansions.proofs.Loops.{loops_rendered}
+use Rattle.hl_expansions.proofs.Recoded.{recodes}
+use Rattle.hl_expansions.specs.Expansions.{expansions}
 use Rattle.hl_term_laws.proofs.Programs.{functions_render}
 
 -- what has an answer and is computed agrees
@@ -51,3 +51,7 @@ calls_agree x edition program jets loops typed name argument given call core w e
       agrees = agreed f.result (meaning fs name given argument) (bare.meaning (erased r.made.term) w core) (typed_answers program typed name argument given call)
           (subst (λ a. Computes f.result a (bare.meaning (erased r.made.term) w core)) (sym means) computes);
     }
+
+pub compiled_calls_agree : CompiledCallsAgree
+compiled_calls_agree edition program typed name argument given call core w encodes told =
+    calls_agree expansions edition program jets_rendered loops_rendered typed name argument given call core w encodes told

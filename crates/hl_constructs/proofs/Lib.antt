@@ -1,0 +1,2 @@
+-- The files of this crate's laws and answers to goals.
+pub mod Stands
