@@ -5,7 +5,6 @@ use Rattle.hl_data.specs.declared.value.HlValue.TheVariants as value
 use Rattle.hl_syntax.specs.declared.kinds.HlType.{HlType}
 use Rattle.hl_syntax.specs.declared.kinds.HlType.TheVariants as kind
 use Rattle.hl_terms.specs.Translated.{all_values, each_value, list_term, value_term}
-use Rattle.simplicity.specs.Canon.{Declared}
 use Rattle.simplicity.specs.Makes.{to_left, to_right, tuple, unit}
 use Rattle.simplicity.specs.Types.{Kind}
 use Rattle.simplicityhl.specs.Kinds.{bound_level, form}
@@ -57,7 +56,7 @@ nothing_is v k item got old one source id v_is k_is got_is grown within means =
     ap (λ b. to_left b (unit (kind_at one source))) (means.is ∙ ap form got_is) ∙ ap (λ b. to_left (form item) (unit b)) (kind_later old one source grown within) ∙ sym (term-Nothing v k (kind_at old source) item v_is k_is)
 
 -- the term of what a tag holds
-module _ (old one two : List Kind) (rows : List TermRow) (source other id : ℕ) (u got : HlValue) (k got_kind : HlType) (got_is : got ≡ u) (kind_is : got_kind ≡ k) (grown : IsGrown old one) (within : source < length old)
+module _ (old one two : List Kind) (rows : List TermRow) (source id : ℕ) (u got : HlValue) (k got_kind : HlType) (got_is : got ≡ u) (kind_is : got_kind ≡ k) (grown : IsGrown old one) (within : source < length old)
     (made : MeansTerm two rows id (value_term got got_kind (kind_at one source))) where
   held_is : term_at two rows id ≡ value_term u k (kind_at old source)
   held_is = made.is ∙ ap (λ x. value_term x got_kind (kind_at one source)) got_is ∙ ap (λ x. value_term u x (kind_at one source)) kind_is ∙ ap (value_term u k) (kind_later old one source grown within)
@@ -66,12 +65,12 @@ pub left_is : (v : HlValue) (k : HlType) (u got : HlValue) (left right got_left 
     IsGrown old one → IsGrown one two → source < length old → Means one other (form got_right) → MeansTerm two rows id (value_term got got_left (kind_at one source)) → to_left (kind_at two other) (term_at two rows id) ≡ value_term v k (kind_at old source)
 left_is v k u got left right got_left got_right old one two rows source other id v_is k_is got_is on_left on_right grown more within means made =
     ap (λ b. to_left b (term_at two rows id)) (means_later one two other (form got_right) more means ∙ ap form on_right)
-    ∙ ap (to_left (form right)) (held_is old one two rows source other id u got left got_left got_is on_left grown within made)
+    ∙ ap (to_left (form right)) (held_is old one two rows source id u got left got_left got_is on_left grown within made)
     ∙ sym (term-Left v k (kind_at old source) u left right v_is k_is)
 
 pub right_is : (v : HlValue) (k : HlType) (u got : HlValue) (left right got_left got_right : HlType) (old one two : List Kind) (rows : List TermRow) (source other id : ℕ) → v ≡ value.Right u → k ≡ kind.Either left right → got ≡ u → got_left ≡ left → got_right ≡ right →
     IsGrown old one → IsGrown one two → source < length old → Means one other (form got_left) → MeansTerm two rows id (value_term got got_right (kind_at one source)) → to_right (kind_at two other) (term_at two rows id) ≡ value_term v k (kind_at old source)
 right_is v k u got left right got_left got_right old one two rows source other id v_is k_is got_is on_left on_right grown more within means made =
     ap (λ b. to_right b (term_at two rows id)) (means_later one two other (form got_left) more means ∙ ap form on_left)
-    ∙ ap (to_right (form left)) (held_is old one two rows source other id u got right got_right got_is on_right grown within made)
+    ∙ ap (to_right (form left)) (held_is old one two rows source id u got right got_right got_is on_right grown within made)
     ∙ sym (term-Right v k (kind_at old source) u left right v_is k_is)

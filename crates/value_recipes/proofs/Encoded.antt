@@ -18,7 +18,7 @@ beside_there join (Some a) (Some b) h = (refl, refl)
 beside_there join (Some a) None h = absurd (cc)
 beside_there join None b h = absurd (cc)
 
-both_true : (a b : Bool) → IsTrue (a && b) → IsTrue a × IsTrue b
+pub both_true : (a b : Bool) → IsTrue (a && b) → IsTrue a × IsTrue b
 both_true true b h = (refl, h)
 both_true false b h = cc
 

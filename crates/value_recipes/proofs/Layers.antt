@@ -1,5 +1,5 @@
 -- The terms of values by their parts.
-use Rattle.std.proofs.Common.{◌≡◌, ℕ, Bool, true, false, ◌&&◌, List, map, Option, Some, None, option_map, refl, sym, ap, ◌∙◌, subst, IsTrue}
+use Rattle.std.proofs.Common.{◌≡◌, ℕ, Bool, List, map, Option, Some, None, option_map, refl, sym, ap, ◌∙◌, subst, IsTrue}
 use Rattle.std.specs.Prelude.{IsSome, option_and_then}
 use Rattle.hl_data.specs.declared.value.HlValue.{HlValue, map-HlValue}
 use Rattle.hl_data.specs.declared.value.HlValue.TheFolds.{fold-roll-HlValue}
@@ -15,8 +15,8 @@ use Rattle.hl_meaning.specs.Entries.{IsValueOf}
 use Rattle.hl_meaning.specs.Values.{Encoding, at_all, encode_at, encode_step, encoded, list_value}
 use Rattle.hl_terms.specs.Translated.{ValueTerm, all_values, each_value, list_term, value_at, value_term}
 use Rattle.hl_term_laws.proofs.Params.{value_gives}
+use Rattle.value_recipes.proofs.Encoded.{both_true}
 use Rattle.simplicity.specs.Arrows.{IsTypedTerm}
-use Rattle.simplicity.specs.Canon.{Declared}
 use Rattle.simplicity.specs.Makes.{to_left, to_right, tuple, unit}
 use Rattle.simplicity.specs.Types.{Kind, One, Value, Inl, Inr}
 use Rattle.simplicityhl.specs.Kinds.{bound_level, form, is_bound, is_sound, sound_step, IsSound}
@@ -58,7 +58,7 @@ term-Left v k a u left right v_is k_is = rolled (HlValue-F.Left u) (HlType-F.Eit
 pub term-Right : (v : HlValue) (k : HlType) (a : Kind) (u : HlValue) (left right : HlType) → v ≡ value.Right u → k ≡ kind.Either left right → value_term v k a ≡ to_right (form left) (value_term u right a)
 term-Right v k a u left right v_is k_is = rolled (HlValue-F.Right u) (HlType-F.Either left right) v k a (value.rolls-Right u ∙ sym v_is) (kind.rolls-Either left right ∙ sym k_is)
 
--- Parts of a value of a type that is one layer.
+-- the parts of a value are of the parts of its type, and those are sound
 encoded_rolled : (w : HlValue-F HlValue) (x : HlType-F HlType) (v : HlValue) (k : HlType) → roll-HlValue w ≡ v → roll-HlType x ≡ k → encoded v k ≡ encode_at (map-HlValue HlValue Encoding encoded w) x
 encoded_rolled w x v k v_is k_is =
     ap (λ u. encoded u k) (sym v_is) ∙ ap (λ (f : Encoding). f k) (fold-roll-HlValue Encoding encode_step w) ∙ ap (encode_at (map-HlValue HlValue Encoding encoded w)) (ap out-HlType (sym k_is) ∙ out-roll-HlType x)
@@ -88,10 +88,6 @@ right_there v k u got left right got_right v_is k_is got_is right_is h =
 
 sound_rolled : (x : HlType-F HlType) (k : HlType) → roll-HlType x ≡ k → is_sound k ≡ sound_step (map-HlType HlType Bool is_sound x)
 sound_rolled x k is = ap is_sound (sym is) ∙ fold-roll-HlType Bool sound_step x
-
-both_true : (a b : Bool) → IsTrue (a && b) → IsTrue a × IsTrue b
-both_true true b h = (refl, h)
-both_true false b h = absurd (cc)
 
 pub list_sound : (k item got : HlType) (bound : ℕ) → k ≡ kind.List item bound → got ≡ item → IsSound k → IsSound got
 list_sound k item got bound is got_is h =
