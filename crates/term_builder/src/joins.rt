@@ -38,8 +38,10 @@ impl Builder {
     pub fn choose(&mut self, left: CoreType, right: CoreType) -> Result<(), AllocError>
         requires left { IsSoundCore left }
         requires right { IsSoundCore right }
-        requires makes { MayMake 3 (state_of self.old) (match_last (kind_of_core left) (kind_of_core right) (state_of self.old)) }
-        ensures { OnOk result (state_of self.new ≡ match_last (kind_of_core left.entry) (kind_of_core right.entry) (state_of self.old)) }
+        requires makes { MayMake 3 (state_of self.old)
+            (match_last (kind_of_core left) (kind_of_core right) (state_of self.old)) }
+        ensures { OnOk result (state_of self.new
+            ≡ match_last (kind_of_core left.entry) (kind_of_core right.entry) (state_of self.old)) }
     {
         let left = self.id_of(left)?;
         let right = self.id_of(right)?;

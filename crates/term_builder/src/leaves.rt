@@ -24,7 +24,8 @@ use word_math::Word;
 impl Builder {
     /// The unit value.
     pub fn unit(&mut self) -> Result<(), AllocError>
-        ensures { OnOk result (state_of self.new ≡ with_term (make.unit (state_of self.old).here) (state_of self.old)) }
+        ensures { OnOk result (state_of self.new
+            ≡ with_term (make.unit (state_of self.old).here) (state_of self.old)) }
     {
         let id = add_unit(&mut self.terms, &mut self.types, self.here)?;
         self.made.push(id)
@@ -32,7 +33,8 @@ impl Builder {
 
     /// `true`.
     pub fn truth(&mut self) -> Result<(), AllocError>
-        ensures { OnOk result (state_of self.new ≡ with_term (true_term (state_of self.old).here) (state_of self.old)) }
+        ensures { OnOk result (state_of self.new
+            ≡ with_term (true_term (state_of self.old).here) (state_of self.old)) }
     {
         let id = add_true(&mut self.terms, &mut self.types, self.here)?;
         self.made.push(id)
@@ -40,7 +42,8 @@ impl Builder {
 
     /// `false`.
     pub fn falsehood(&mut self) -> Result<(), AllocError>
-        ensures { OnOk result (state_of self.new ≡ with_term (false_term (state_of self.old).here) (state_of self.old)) }
+        ensures { OnOk result (state_of self.new
+            ≡ with_term (false_term (state_of self.old).here) (state_of self.old)) }
     {
         let id = add_false(&mut self.terms, &mut self.types, self.here)?;
         self.made.push(id)
@@ -49,7 +52,9 @@ impl Builder {
     /// `None`, at the type of an option of an item.
     pub fn nothing(&mut self, item: CoreType) -> Result<(), AllocError>
         requires { IsSoundCore item }
-        ensures { OnOk result (state_of self.new ≡ with_term (make.to_left (kind_of_core item.entry) (make.unit (state_of self.old).here)) (state_of self.old)) }
+        ensures { OnOk result (state_of self.new
+            ≡ with_term (make.to_left (kind_of_core item.entry) (make.unit (state_of self.old).here))
+            (state_of self.old)) }
     {
         let item = self.id_of(item)?;
         let id = add_nothing(&mut self.terms, &mut self.types, self.here, item)?;
@@ -58,7 +63,8 @@ impl Builder {
 
     /// A word.
     pub fn word(&mut self, word: Word) -> Result<(), AllocError>
-        ensures { OnOk result (state_of self.new ≡ with_term (word_term (state_of self.old).here word.width word.number) (state_of self.old)) }
+        ensures { OnOk result (state_of self.new
+            ≡ with_term (word_term (state_of self.old).here word.width word.number) (state_of self.old)) }
     {
         let id = add_word_value(&mut self.terms, &mut self.types, self.here, word)?;
         self.made.push(id)
@@ -67,7 +73,8 @@ impl Builder {
     /// Failure, at a type.
     pub fn failure(&mut self, kind: CoreType) -> Result<(), AllocError>
         requires { IsSoundCore kind }
-        ensures { OnOk result (state_of self.new ≡ with_term (make.fail (state_of self.old).here (kind_of_core kind.entry)) (state_of self.old)) }
+        ensures { OnOk result (state_of self.new
+            ≡ with_term (make.fail (state_of self.old).here (kind_of_core kind.entry)) (state_of self.old)) }
     {
         let kind = self.id_of(kind)?;
         let id = add_fail(&mut self.terms, &self.types, self.here, kind)?;
@@ -77,7 +84,9 @@ impl Builder {
     /// The witness of a number, at a type.
     pub fn witness(&mut self, number: usize, kind: CoreType) -> Result<(), AllocError>
         requires { IsSoundCore kind }
-        ensures { OnOk result (state_of self.new ≡ with_term (make.witness (state_of self.old).here (kind_of_core kind.entry) number) (state_of self.old)) }
+        ensures { OnOk result (state_of self.new
+            ≡ with_term (make.witness (state_of self.old).here (kind_of_core kind.entry) number)
+            (state_of self.old)) }
     {
         let kind = self.id_of(kind)?;
         let id = add_witness(&mut self.terms, &self.types, number, self.here, kind)?;
@@ -86,7 +95,8 @@ impl Builder {
 
     /// What a path leads to in the input.
     pub fn path(&mut self, path: &Path) -> Result<(), AllocError>
-        ensures { OnOk result (state_of self.new ≡ with_term (path_term (state_of self.old).here (map step_of path.now)) (state_of self.old)) }
+        ensures { OnOk result (state_of self.new
+            ≡ with_term (path_term (state_of self.old).here (map step_of path.now)) (state_of self.old)) }
     {
         let id = add_path(&mut self.terms, &mut self.types, self.here, path)?;
         self.made.push(id)
@@ -96,7 +106,8 @@ impl Builder {
     pub fn value(&mut self, value: &HlValue, kind: &HlType) -> Result<(), AllocError>
         requires sound { IsSound kind.now }
         requires of_kind { IsValueOf value.now kind.now }
-        ensures { OnOk result (state_of self.new ≡ with_term (value_term value.now kind.now (state_of self.old).here) (state_of self.old)) }
+        ensures { OnOk result (state_of self.new
+            ≡ with_term (value_term value.now kind.now (state_of self.old).here) (state_of self.old)) }
     {
         let id = add_value(
             self.alloc,

@@ -36,8 +36,10 @@ impl Builder {
     pub fn unwrap_left(&mut self, left: CoreType, right: CoreType) -> Result<(), AllocError>
         requires left { IsSoundCore left }
         requires right { IsSoundCore right }
-        requires makes { MayMake 1 (state_of self.old) (unwrap_left_last (kind_of_core left) (kind_of_core right) (state_of self.old)) }
-        ensures { OnOk result (state_of self.new ≡ unwrap_left_last (kind_of_core left.entry) (kind_of_core right.entry) (state_of self.old)) }
+        requires makes { MayMake 1 (state_of self.old)
+            (unwrap_left_last (kind_of_core left) (kind_of_core right) (state_of self.old)) }
+        ensures { OnOk result (state_of self.new
+            ≡ unwrap_left_last (kind_of_core left.entry) (kind_of_core right.entry) (state_of self.old)) }
     {
         let left = self.id_of(left)?;
         let right = self.id_of(right)?;
@@ -59,8 +61,10 @@ impl Builder {
     pub fn unwrap_right(&mut self, left: CoreType, right: CoreType) -> Result<(), AllocError>
         requires left { IsSoundCore left }
         requires right { IsSoundCore right }
-        requires makes { MayMake 1 (state_of self.old) (unwrap_right_last (kind_of_core left) (kind_of_core right) (state_of self.old)) }
-        ensures { OnOk result (state_of self.new ≡ unwrap_right_last (kind_of_core left.entry) (kind_of_core right.entry) (state_of self.old)) }
+        requires makes { MayMake 1 (state_of self.old)
+            (unwrap_right_last (kind_of_core left) (kind_of_core right) (state_of self.old)) }
+        ensures { OnOk result (state_of self.new
+            ≡ unwrap_right_last (kind_of_core left.entry) (kind_of_core right.entry) (state_of self.old)) }
     {
         let left = self.id_of(left)?;
         let right = self.id_of(right)?;
@@ -81,8 +85,10 @@ impl Builder {
     /// Whether an option of an item holds nothing.
     pub fn test_none(&mut self, item: CoreType) -> Result<(), AllocError>
         requires item { IsSoundCore item }
-        requires makes { MayMake 1 (state_of self.old) (test_none_last (kind_of_core item) (state_of self.old)) }
-        ensures { OnOk result (state_of self.new ≡ test_none_last (kind_of_core item.entry) (state_of self.old)) }
+        requires makes { MayMake 1 (state_of self.old)
+            (test_none_last (kind_of_core item) (state_of self.old)) }
+        ensures { OnOk result (state_of self.new
+            ≡ test_none_last (kind_of_core item.entry) (state_of self.old)) }
     {
         let item = self.id_of(item)?;
         let value = self.made.top();
@@ -95,7 +101,8 @@ impl Builder {
     pub fn to_left(&mut self, other: CoreType) -> Result<(), AllocError>
         requires other { IsSoundCore other }
         requires makes { MayMake 1 (state_of self.old) (to_left_last (kind_of_core other) (state_of self.old)) }
-        ensures { OnOk result (state_of self.new ≡ to_left_last (kind_of_core other.entry) (state_of self.old)) }
+        ensures { OnOk result (state_of self.new
+            ≡ to_left_last (kind_of_core other.entry) (state_of self.old)) }
     {
         let other = self.id_of(other)?;
         let value = self.made.top();
@@ -108,7 +115,8 @@ impl Builder {
     pub fn to_right(&mut self, other: CoreType) -> Result<(), AllocError>
         requires other { IsSoundCore other }
         requires makes { MayMake 1 (state_of self.old) (to_right_last (kind_of_core other) (state_of self.old)) }
-        ensures { OnOk result (state_of self.new ≡ to_right_last (kind_of_core other.entry) (state_of self.old)) }
+        ensures { OnOk result (state_of self.new
+            ≡ to_right_last (kind_of_core other.entry) (state_of self.old)) }
     {
         let other = self.id_of(other)?;
         let value = self.made.top();
@@ -131,8 +139,10 @@ impl Builder {
     pub fn list(&mut self, count: usize, item: CoreType, bound: u32) -> Result<(), AllocError>
         requires item { IsSoundCore item }
         requires bound { IsTrue (is_bound bound) }
-        requires makes { MayMake count (state_of self.old) (list_last (kind_of_core item) bound count (state_of self.old)) }
-        ensures { OnOk result (state_of self.new ≡ list_last (kind_of_core item.entry) bound count (state_of self.old)) }
+        requires makes { MayMake count (state_of self.old)
+            (list_last (kind_of_core item) bound count (state_of self.old)) }
+        ensures { OnOk result (state_of self.new
+            ≡ list_last (kind_of_core item.entry) bound count (state_of self.old)) }
     {
         let item = self.id_of(item)?;
         let items = self.made.last(count);

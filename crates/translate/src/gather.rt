@@ -44,8 +44,10 @@ pub(crate) fn gather_parts(
     requires known { Known place }
     requires may { MayGather place how kind.now }
     requires kept { (state_of builder.old).kept ≡ map (λ f. f.term) (terms_of place) }
-    requires makes { MayMake count (state_of builder.old) (gather_last place how kind.now count (state_of builder.old)) }
-    ensures { OnOk result (state_of builder.new ≡ gather_last place.entry how.entry kind.now count (state_of builder.old)) }
+    requires makes { MayMake count (state_of builder.old)
+        (gather_last place how kind.now count (state_of builder.old)) }
+    ensures { OnOk result (state_of builder.new
+        ≡ gather_last place.entry how.entry kind.now count (state_of builder.old)) }
 {
     match how {
         Gather::Tuple | Gather::Array => builder.tuple(count),

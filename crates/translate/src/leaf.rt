@@ -31,7 +31,8 @@ use term_builder::{Builder, CoreType};
 pub(crate) fn nothing(builder: &mut Builder, kind: &HlType) -> Result<(), AllocError>
     requires { IsSound kind.now }
     ensures { OnOk result (state_of builder.new
-        ≡ with_term (make.to_left (item_of (out-HlType kind.now)) (make.unit (state_of builder.old).here)) (state_of builder.old)) }
+        ≡ with_term (make.to_left (item_of (out-HlType kind.now)) (make.unit (state_of builder.old).here))
+        (state_of builder.old)) }
 {
     builder.nothing(item_of(kind))
 }
@@ -41,7 +42,8 @@ pub(crate) fn literal(builder: &mut Builder, kind: &HlType, text: &Text) -> Resu
     requires sound { IsSound kind.now }
     requires spelled { IsSpelled kind.now text.now }
     ensures { OnOk result (state_of builder.new
-        ≡ with_term (literal_at (out-HlType kind.now) (state_of builder.old).here text.now) (state_of builder.old)) }
+        ≡ with_term (literal_at (out-HlType kind.now) (state_of builder.old).here text.now)
+        (state_of builder.old)) }
 {
     match kind {
         HlType::UInt(width) => match word_spelled(text.as_str(), *width) {
@@ -64,7 +66,8 @@ pub(crate) fn variable(
     requires stands { (names : _) × Stands place layout.now names }
     requires ready { IsReady place layout.now (state_of builder.old) }
     ensures { OnOk result (state_of builder.new
-        ≡ with_term (or_fail (variable_term name.now (scope_shape layout.now)) (state_of builder.old).here (kinds.form kind.now)) (state_of builder.old)) }
+        ≡ with_term (or_fail (variable_term name.now (scope_shape layout.now)) (state_of builder.old).here (kinds.form kind.now))
+        (state_of builder.old)) }
 {
     let _place = place;
     match layout.path(name.as_str())? {

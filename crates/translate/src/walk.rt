@@ -163,7 +163,8 @@ fn expressions<'a>(
     requires fit { All (Fits place layout.old) parts.now }
     requires ready { IsReady place layout.old (state_of builder.old) }
     ensures made { OnOk result (state_of builder.new
-        ≡ with_made (terms_onto place.entry (scope_shape layout.old) parts.now (state_of builder.old).made) (state_of builder.old)) }
+        ≡ with_made (terms_onto place.entry (scope_shape layout.old) parts.now (state_of builder.old).made)
+        (state_of builder.old)) }
     ensures layout { OnOk result (layout.new ≡ layout.old) }
 {
     'parts: for part in parts.as_slice() {
@@ -216,9 +217,11 @@ fn statement<'a>(
     requires fits { LineFits place layout.old (out-TypedStatement line.now) }
     requires ready { IsReady place layout.old (state_of builder.old) }
     ensures made { OnOk result (state_of builder.new
-        ≡ (advance place.entry (out-TypedStatement line.now) (record { layout = layout.old; state = state_of builder.old })).state) }
+        ≡ (advance place.entry (out-TypedStatement line.now)
+        (record { layout = layout.old; state = state_of builder.old })).state) }
     ensures layout { OnOk result (layout.new
-        ≡ (advance place.entry (out-TypedStatement line.now) (record { layout = layout.old; state = state_of builder.old })).layout) }
+        ≡ (advance place.entry (out-TypedStatement line.now)
+        (record { layout = layout.old; state = state_of builder.old })).layout) }
 {
     match line {
         TypedStatement::Let {
@@ -243,7 +246,8 @@ fn end_of(
     requires open { HasInner (out-TypedStatement line.now) layout.old }
     requires makes { MayMake 2 (before_end (out-TypedStatement line.now) (state_of builder.old))
         (ended (out-TypedStatement line.now) (state_of builder.old)) }
-    ensures made { OnOk result (state_of builder.new ≡ ended (out-TypedStatement line.now) (state_of builder.old)) }
+    ensures made { OnOk result (state_of builder.new
+        ≡ ended (out-TypedStatement line.now) (state_of builder.old)) }
     ensures layout { OnOk result (IsBeforeSome (out-TypedStatement line.now) layout.old layout.new) }
 {
     match line {
@@ -297,7 +301,8 @@ fn both_sides<'a>(
     requires left { ArmFits place layout.old left.now }
     requires right { ArmFits place layout.old right.now }
     requires ready { IsReady place layout.old (state_of builder.old) }
-    requires makes { MayMake 1 (state_of builder.old) (choose_last place layout.old left.now right.now (state_of builder.old)) }
+    requires makes { MayMake 1 (state_of builder.old)
+        (choose_last place layout.old left.now right.now (state_of builder.old)) }
     ensures made { OnOk result (state_of builder.new
         ≡ choose_last place.entry layout.old left.now right.now (state_of builder.old)) }
     ensures layout { OnOk result (layout.new ≡ layout.old) }
@@ -321,7 +326,8 @@ fn arm<'a>(
     requires fits { ArmFits place layout.old one.now }
     requires ready { IsReady place layout.old (state_of builder.old) }
     ensures made { OnOk result (state_of builder.new
-        ≡ with_term (term_in place.entry (scope_shape (arm_layout place.entry one.now.side layout.old)) one.now.body) (state_of builder.old)) }
+        ≡ with_term (term_in place.entry (scope_shape (arm_layout place.entry one.now.side layout.old)) one.now.body)
+        (state_of builder.old)) }
     ensures layout { OnOk result (layout.new ≡ layout.old) }
 {
     let (pattern, kind) = bound_by(place, &one.side);
